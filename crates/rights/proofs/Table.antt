@@ -1,0 +1,47 @@
+-- The code's table of rights, two levels by ten zones, is the one of the rules.
+use Prim.Native.Nat.{ℕ, zero, suc, _+_, _-_, _≤_, _<_}
+use native.Mathlib.Omega.{arith}
+use mathlib.Core.Path.{_≡_, refl, sym}
+use mathlib.Core.Bool.{Bool, true, false, not}
+use mathlib.Core.List.{List, [], _∷_, _++_, map}
+use lib.ListN.{length, getD}
+use lib.Seq.{getD-append-add}
+use mir.Val.{boolByte}
+use Rattle.rules.specs.declared.Right.{Right}
+use Rattle.rules.specs.Rights.{right, no, table, others}
+
+-- The index of a level.
+pub level-below : (l1 : Bool) → boolByte (not l1) < 2
+level-below true = omega arith
+level-below false = omega arith
+
+-- A row as the code's table has it, and what the code makes of it.
+abbrev spelled : Right → List ℕ
+spelled x = x .read ∷ x .write ∷ x .erase ∷ []
+
+abbrev said : List ℕ → Right
+said e = right (getD e 0 0) (getD e 1 0) (getD e 2 0)
+
+within : (rows : List Right) (r : ℕ) → r < length rows → said (getD (map spelled rows) r []) ≡ getD (rows ++ others) r (right no no no)
+within [] r h = absurd (omega arith)
+within (x ∷ rows) zero h = refl
+within (x ∷ rows) (suc r) h = within rows r (omega arith)
+
+-- The code's table is computed from the one of the rules, all rows of both levels at once.
+pub in-table :
+    (l1 : Bool) (r : ℕ) → r < 10 →
+    said (getD (getD (map spelled (table true) ∷ map spelled (table false) ∷ []) (boolByte (not l1)) []) r []) ≡
+    getD (table l1 ++ others) r (right no no no)
+unfolding table
+in-table true r h = within (table true) r h
+in-table false r h = within (table false) r h
+
+after : (rows : List Right) (r : ℕ) → length rows ≤ r → getD others (r - length rows) (right no no no) ≡ getD (rows ++ others) r (right no no no)
+after rows r h =
+    let e : length rows + (r - length rows) ≡ r = omega arith in
+    rw e at (sym (getD-append-add rows others (r - length rows) (right no no no)))
+
+pub past-table : (l1 : Bool) (r : ℕ) → 9 < r → getD others (r - 10) (right no no no) ≡ getD (table l1 ++ others) r (right no no no)
+unfolding table
+past-table true r h = after (table true) r h
+past-table false r h = after (table false) r h

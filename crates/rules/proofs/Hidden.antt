@@ -1,0 +1,198 @@
+-- Demand 3: "Before the step at which either opens, their pin answers and refusals are equal and those three zones keep every bit."
+use Prim.Native.Nat.{ℕ, suc, _≤_}
+use mathlib.Core.Path.{_≡_, refl, sym, ap, subst, _∙_}
+use mathlib.Core.Bool.{Bool, true, false, cond, not}
+use mathlib.Core.List.{List, [], _∷_}
+use native.Mathlib.Omega.{arith}
+use lib.Dec.{eqb, ltb}
+use lib.ListN.{length, take, length-take}
+use borrow.Author.Tests.{eqb-true, ltb-false, le-ltb}
+use Rattle.rules.specs.declared.Answer.{Answer}
+use Rattle.rules.specs.declared.Answer.the-variants.{Pin}
+use Rattle.rules.specs.Halves.{Volatile, Card, off, fresh}
+use Rattle.rules.specs.Steps.{next, pin}
+use Rattle.rules.specs.Refusals.{refusal, stateRefusal, runRefusal, longest}
+use Rattle.rules.specs.Card.{Ran, stepped, answered, run, checkedRun}
+use Rattle.rules.specs.Demands.{Alike, freshCard, after, answers, Unopened, ZonesKept, Hidden-before-opening}
+use Rattle.rules.specs.Demands.{UnopenedRun, Hidden-in-a-run}
+use Rattle.rules.proofs.Tests.{peel}
+use Rattle.rules.proofs.StepCases.{Way}
+use Rattle.rules.proofs.StepCases.{moved, way, step-cases, same-way, same-refusal, accepted}
+use Rattle.rules.proofs.AlikeCards.{Closed, Alike-cards, Unopened-card, closed-moved, alike-moved, cond-both, same-pin}
+
+-- No run of a part of the list opens the card.
+abbrev Unopened-in : Card → List ℕ → Type 0
+Unopened-in c ns = (k : ℕ) → Unopened-card (run c (take k ns) .card)
+
+unopened-tail : (c : Card) (n : ℕ) (ns : List ℕ) → refusal (c .volatile) n ≡ 0 → Unopened-in c (n ∷ ns) → Unopened-in (next c n) ns
+unfolding run
+unopened-tail c n ns e u k = rw e at (u (suc k))
+
+module _ (m m′ : List ℕ) (start : Alike m m′) where
+  record Two (c c′ : Card) : Type 0 where
+    closed : Closed m c
+    closed′ : Closed m′ c′
+    alike : Alike-cards c c′
+
+  two-stepped :
+      (c c′ : Card) (n : ℕ) → Unopened-card c → Unopened-card c′ → Two c c′ → Two (stepped c n) (stepped c′ n)
+  two-stepped c c′ n shut shut′ p =
+      step-cases (λ (x : Card). Two x (stepped c′ n)) c n
+      (step-cases (λ (x : Card). Two (moved w n c) x) c′ n
+      (subst (λ (u : Way). Two (moved w n c) (moved u n c′))
+      (same-way (c .volatile) (c′ .volatile) n (p .alike .lines) (p .alike .programming))
+      (record {
+        closed = closed-moved m (start .unreadable) c n shut (p .closed) w;
+        closed′ = closed-moved m′ (start .unreadable′) c′ n shut′ (p .closed′) w;
+        alike = alike-moved c c′ shut shut′ (p .alike) n w;
+      })))
+    where
+      w : Way
+      w = way (c .volatile) n
+
+  module _ (c c′ : Card) (n : ℕ) (p : Two c c′) where
+    refused-alike : refusal (c .volatile) n ≡ refusal (c′ .volatile) n
+    refused-alike = same-refusal (c .volatile) (c′ .volatile) n (p .alike .lines) (p .alike .programming)
+
+    -- An accepted step of the one is one of the other.
+    next-two :
+        Unopened-card c → Unopened-card c′ → refusal (c .volatile) n ≡ 0 → Two (next c n) (next c′ n)
+    next-two shut shut′ e =
+        rw (accepted c n e, accepted c′ n (sym refused-alike ∙ e)) at (two-stepped c c′ n shut shut′ p)
+
+    next-pins :
+        Unopened-card c → Unopened-card c′ → refusal (c .volatile) n ≡ 0 → Unopened-card (next c n) → Unopened-card (next c′ n) →
+        pin (next c n) ≡ pin (next c′ n)
+    next-pins shut shut′ e later later′ =
+        let q = next-two shut shut′ e in
+        same-pin (next c n) (next c′ n) later later′ (q .closed .unread) (q .closed′ .unread) (q .alike)
+
+    same-answer :
+        Unopened-card c → Unopened-card c′ → Unopened-card (stepped c n) → Unopened-card (stepped c′ n) → answered c n ≡ answered c′ n
+    unfolding answered stepped
+    same-answer shut shut′ later later′ =
+        rw (← refused-alike)
+        (cond-both (_≡_ {A = Answer}) (eqb (refusal (c .volatile) n) 0)
+        (λ t.
+        let e = eqb-true (refusal (c .volatile) n) 0 t in
+        ap Pin (next-pins shut shut′ e (rw e at later) (rw (sym refused-alike ∙ e) at later′)))
+        (λ _. refl))
+
+  record Indistinct (c c′ : Card) (ns : List ℕ) : Type 0 where
+    same : answers c ns ≡ answers c′ ns
+    kept : ZonesKept m (after c ns)
+    kept′ : ZonesKept m′ (after c′ ns)
+
+  indistinct : (c c′ : Card) (ns : List ℕ) → Two c c′ → Unopened c ns → Unopened c′ ns → Indistinct c c′ ns
+  unfolding Unopened answers after
+  indistinct c c′ [] p u u′ = record { same = refl; kept = p .closed .zones; kept′ = p .closed′ .zones }
+  indistinct c c′ (n ∷ ns) p u u′ =
+      let rest = indistinct (stepped c n) (stepped c′ n) ns (two-stepped c c′ n (u 0) (u′ 0) p) (λ k. u (suc k)) (λ k. u′ (suc k)) in
+      record {
+        same = cc (same-answer c c′ n p (u 0) (u′ 0) (u 1) (u′ 1), rest .same);
+        kept = rest .kept;
+        kept′ = rest .kept′;
+      }
+
+  record Indistinct-runs (r r′ : Ran) : Type 0 where
+    same : r .answers ≡ r′ .answers
+    refused : r .refused ≡ r′ .refused
+    kept : ZonesKept m (r .card)
+    kept′ : ZonesKept m′ (r′ .card)
+
+  indistinct-runs : (c c′ : Card) (ns : List ℕ) → Two c c′ → Unopened-in c ns → Unopened-in c′ ns → Indistinct-runs (run c ns) (run c′ ns)
+  unfolding run
+  indistinct-runs c c′ [] p u u′ = record { same = refl; refused = refl; kept = p .closed .zones; kept′ = p .closed′ .zones }
+  indistinct-runs c c′ (n ∷ ns) p u u′ =
+      rw (← (refused-alike c c′ n p))
+      (cond-both Indistinct-runs (eqb (refusal (c .volatile) n) 0)
+      (λ t.
+      let e = eqb-true (refusal (c .volatile) n) 0 t in
+      let v = unopened-tail c n ns e u in
+      let v′ = unopened-tail c′ n ns (sym (refused-alike c c′ n p) ∙ e) u′ in
+      let rest = indistinct-runs (next c n) (next c′ n) ns (next-two c c′ n p (u 0) (u′ 0) e) v v′ in
+      record {
+        same = cc (next-pins c c′ n p (u 0) (u′ 0) e (v 0) (v′ 0), rest .same);
+        refused = rest .refused;
+        kept = rest .kept;
+        kept′ = rest .kept′;
+      })
+      (λ _. record { same = refl; refused = refl; kept = p .closed .zones; kept′ = p .closed′ .zones }))
+
+  -- "switched off with all lines low"
+  fresh-two : (fuses : ℕ) → Two (freshCard m fuses) (freshCard m′ fuses)
+  unfolding fresh off
+  fresh-two fuses =
+      record {
+        closed = record { unread = refl; zones = λ a h. refl };
+        closed′ = record { unread = refl; zones = λ a h. refl };
+        alike =
+            record {
+              lines = refl;
+              address = refl;
+              latch = refl;
+              programming = refl;
+              fuses = refl;
+              sized = start .sized ∙ sym (start .sized′);
+              outside = start .outside;
+            };
+      }
+
+pub hidden-before-opening : Hidden-before-opening
+hidden-before-opening m m′ fuses ns start bound u u′ =
+    let r = indistinct m m′ start (freshCard m fuses) (freshCard m′ fuses) ns (fresh-two m m′ start fuses) u u′ in
+    record { same = r .same; kept = r .kept; kept′ = r .kept′ }
+
+-- What refuses no run of k steps refuses none of fewer.
+fewer-steps :
+    (m : List ℕ) (fuses : ℕ) (v : Volatile) (room j k : ℕ) → j ≤ k → runRefusal m fuses v k room ≡ 0 → runRefusal m fuses v j room ≡ 0
+unfolding runRefusal
+fewer-steps m fuses v room j k fewer = go (eqb (stateRefusal m fuses v) 0)
+  where
+    bySteps : (steps : ℕ) → ℕ
+    bySteps steps = cond (ltb longest steps) 18 (cond (ltb room steps) 19 0)
+
+    go : (t : Bool) → cond (not t) (stateRefusal m fuses v) (bySteps k) ≡ 0 → cond (not t) (stateRefusal m fuses v) (bySteps j) ≡ 0
+    go false e = e
+    go true e =
+        let p = peel (ltb longest k) 17 (cond (ltb room k) 19 0) e in
+        rw (le-ltb longest j (omega (arith, ltb-false longest k (p .0))), le-ltb room j (omega (arith, ltb-false room k (peel (ltb room k) 18 0 (p .1) .0))))
+
+-- 10, 14, 9, 18 and 19 look at nothing of the image but its length.
+same-run-refusal :
+    (m m′ : List ℕ) (fuses : ℕ) (v : Volatile) (steps room : ℕ) → length m ≡ length m′ →
+    runRefusal m fuses v steps room ≡ runRefusal m′ fuses v steps room
+unfolding runRefusal stateRefusal
+same-run-refusal m m′ fuses v steps room e = rw e
+
+unopened-run :
+    (c : Card) (ns : List ℕ) (room : ℕ) → runRefusal (c .memory) (c .fuses) (c .volatile) (length ns) room ≡ 0 →
+    UnopenedRun c ns room → Unopened-in c ns
+unfolding UnopenedRun checkedRun
+unopened-run c ns room e u k =
+    rw (fewer-steps (c .memory) (c .fuses) (c .volatile) room (length (take k ns)) (length ns) (omega (arith, length-take k ns)) e) at
+    (u k)
+
+pub hidden-in-a-run : Hidden-in-a-run
+unfolding checkedRun
+hidden-in-a-run m m′ fuses ns room start bound u u′ =
+    record { same = all .same; refused = all .refused; kept = all .kept; kept′ = all .kept′ }
+  where
+    c : Card
+    c = freshCard m fuses
+
+    c′ : Card
+    c′ = freshCard m′ fuses
+
+    alike : runRefusal m fuses fresh (length ns) room ≡ runRefusal m′ fuses fresh (length ns) room
+    alike = same-run-refusal m m′ fuses fresh (length ns) room (start .sized ∙ sym (start .sized′))
+
+    all : Indistinct-runs m m′ start (checkedRun c ns room) (checkedRun c′ ns room)
+    all =
+        rw (← alike)
+        (cond-both (Indistinct-runs m m′ start) (eqb (runRefusal m fuses fresh (length ns) room) 0)
+        (λ t.
+        let e = eqb-true (runRefusal m fuses fresh (length ns) room) 0 t in
+        indistinct-runs m m′ start c c′ ns (fresh-two m m′ start fuses) (unopened-run c ns room e u)
+        (unopened-run c′ ns room (sym alike ∙ e) u′))
+        (λ _. record { same = refl; refused = refl; kept = λ a h. refl; kept′ = λ a h. refl }))

@@ -1,0 +1,16 @@
+pub mod Tests
+pub mod Soundness
+pub mod CodeMatch
+pub mod Macros
+pub mod Counter
+pub mod Opening
+pub mod OpeningExamples
+pub mod MakerLaws
+pub mod StepCases
+pub mod ZoneCases
+pub mod Mild
+pub mod Shut
+pub mod AlikeCards
+pub mod Hidden
+pub mod Examples
+pub mod CheckedSteps

@@ -1,0 +1,61 @@
+-- How many steps each act of the maker has, as 01, "The step maker", counts them.
+use Prim.Native.Nat.{ℕ, zero, suc, _+_, _*_}
+use native.Mathlib.Omega.{arith}
+use mathlib.Core.Path.{_≡_, refl, ap}
+use mathlib.Core.Bool.{Bool, true, false}
+use mathlib.Core.List.{List, [], _∷_, _++_}
+use lib.ListN.{length, length-append}
+use Rattle.rules.specs.Maker.{reset, walk, digits, showBits, show, program, blow, zerosBefore, open-card}
+
+-- "reset: RST up, down; 2 steps."
+pub length-reset : (fus : Bool) → length (reset fus) ≡ 2
+unfolding reset
+length-reset fus = refl
+
+-- "Walk n (0 to 1519): CLK up, down; 2n."
+pub length-walk : (fus : Bool) (n : ℕ) → length (walk fus n) ≡ 2 * n
+unfolding walk
+length-walk fus zero = refl
+length-walk fus (suc n) = let rest = length-walk fus n in omega arith
+
+length-digits : (width x : ℕ) → length (digits width x) ≡ width
+unfolding digits
+length-digits zero x = refl
+length-digits (suc width) x = ap suc (length-digits width x)
+
+length-shown : (fus : Bool) (bs : List Bool) → length (showBits fus bs) ≡ 3 * length bs + 1
+unfolding showBits
+length-shown fus [] = refl
+length-shown fus (b ∷ bs) = let rest = length-shown fus bs in omega arith
+
+-- "per bit set I/O, CLK up, down; at the end I/O 1; 49 or 97."
+pub length-show : (fus : Bool) (width x : ℕ) → length (show fus width x) ≡ 3 * width + 1
+unfolding show
+length-show fus width x = rw (length-shown fus (digits width x), length-digits width x)
+
+pub length-show-16 : (fus : Bool) (x : ℕ) → length (show fus 16 x) ≡ 49
+length-show-16 fus x = length-show fus 16 x
+
+pub length-show-32 : (fus : Bool) (x : ℕ) → length (show fus 32 x) ≡ 97
+length-show-32 fus x = length-show fus 32 x
+
+-- "program d: PGM up, I/O d, CLK up, PGM down, I/O 1, CLK down; 6."
+pub length-program : (fus d : Bool) → length (program fus d) ≡ 6
+unfolding program
+length-program fus d = refl
+
+-- "blow: RST up, program 0, RST down; 8."
+pub length-blow : (fus : Bool) → length (blow fus) ≡ 8
+unfolding blow
+length-blow fus = refl
+
+-- "reset, walk 80, show, walk k, write, erase"
+length-parts : (fus : Bool) (code k : ℕ) →
+    length (reset fus ++ (walk fus 80 ++ (show fus 16 code ++ (walk fus k ++ (program fus false ++ program fus true))))) ≡ 223 + 2 * k
+length-parts fus code k =
+    simp (length-append, length-reset, length-walk, length-show, length-program) (omega arith)
+
+-- "open with a code and the byte of bits 96 to 103: .. 223 + 2k steps."
+pub length-open : (fus : Bool) (code attempts : ℕ) → length (open-card fus code attempts) ≡ 223 + 2 * zerosBefore 8 attempts
+unfolding open-card
+length-open fus code attempts = length-parts fus code (zerosBefore 8 attempts)

@@ -1,0 +1,242 @@
+-- What 01's table of rights leaves without SV, and that what is left touches none of the three hidden zones.
+use Prim.Native.Nat.{ℕ, _<_, _/_}
+use mathlib.Core.Path.{_≡_, refl, sym, ap, _∙_}
+use mathlib.Core.Bool.{Bool, true, false, cond, not, _&&_, _||_, Bool·beq, false≢true, true≢false, and-false}
+use mathlib.Core.List.{List}
+use native.Mathlib.Omega.{arith}
+use lib.Dec.{eqb, ltb}
+use lib.ListN.{length}
+use borrow.Author.Tests.{eqb-true, ne-eqb}
+use Rattle.memory.specs.Image.{bit, erasedWord}
+use Rattle.memory.proofs.Laws.{bit-written, bit-erased, length-written, length-erased}
+use Rattle.rules.specs.declared.Zone.{Zone}
+use Rattle.rules.specs.declared.Zone.the-variants.{FZ, IZ, SC, SCAC, CPZ, AZ, EZ, EC, MTZ, MFZ}
+use Rattle.rules.specs.declared.Zone.the-variants.{Block, FuseMF, FuseECEN, FuseISS, Gap}
+use Rattle.rules.specs.declared.Operation.{Operation}
+use Rattle.rules.specs.declared.Operation.the-variants.{Nothing, WriteBit, EraseWord, EraseZone}
+use Rattle.rules.specs.declared.Operation.the-variants.{WriteBlock, EraseBlock, BlowMF, BlowECEN, BlowISS}
+use Rattle.rules.specs.Zones.{between, zone, row, isFuse}
+use Rattle.rules.specs.Rights.{Held, level1, granted, rights, mayRead, no}
+use Rattle.rules.specs.Programming.{barred, asks, mayProgram, effect, operation, memoryAfter, turns, opens}
+use Rattle.rules.specs.Demands.{hidden}
+use Rattle.rules.proofs.Tests.{beq-true, and-left, and-right}
+use Rattle.rules.proofs.ZoneCases.{placed, in-hidden}
+
+is : Zone → Zone → Bool
+is z y = eqb (row z) (row y)
+
+-- Without SV and R1 every zone of the memory is read but SC, AZ and EZ.
+pub readable : Zone → Bool
+unfolding is
+readable z = ltb (row z) 10 && not (is z SC || (is z AZ || is z EZ))
+
+-- Without SV there is a write in SCAC, EC and MTZ, the erase of the MTZ word, and the blowing of EC_EN.
+allowed : Bool → Bool → Zone → Bool
+unfolding is
+allowed l1 latch z = cond latch (is z MTZ) (is z SCAC || (is z EC || (is z MTZ || is z FuseECEN && l1)))
+
+-- So an operation without SV is nothing, a write outside the hidden zones, the erase of the MTZ word, or the blowing of EC_EN.
+mild : Operation → Zone → Bool
+unfolding readable
+mild Nothing z = true
+mild WriteBit z = readable z
+mild EraseWord z = is z MTZ
+mild EraseZone z = false
+mild WriteBlock z = false
+mild EraseBlock z = false
+mild BlowMF z = false
+mild BlowECEN z = true
+mild BlowISS z = false
+
+-- A test holds whatever its two Booleans.
+every : (Bool → Bool → Bool) → Bool
+every test = test true true && (test true false && (test false true && test false false))
+
+of-every : (test : Bool → Bool → Bool) → every test ≡ true → (a b : Bool) → test a b ≡ true
+unfolding every
+of-every test e true true = and-left _ _ e
+of-every test e true false = and-left _ _ (and-right (test true true) _ e)
+of-every test e false true = and-left _ _ (and-right (test true false) _ (and-right (test true true) _ e))
+of-every test e false false = and-right (test false true) _ (and-right (test true false) _ (and-right (test true true) _ e))
+
+module _ (p1 r1 e1 mf : Bool) where
+  -- What is there without SV.
+  abbrev unopened : Bool → Bool → Bool → Held
+  unopened r fus iss = record { sv = false; p1 = p1; r1 = r; e1 = e1; mf = mf; iss = iss; fus = fus }
+
+  abbrev reads : Zone → Bool → Bool → Bool
+  reads z fus iss = Bool·beq (granted (rights (fus && iss) z .read) (unopened false fus iss)) (readable z)
+
+  abbrev asked : Bool → Bool → Bool → Zone → ℕ
+  asked l1 latch bar z = cond latch (cond (is z EC && bar) no (rights l1 z .erase)) (rights l1 z .write)
+
+  abbrev programs : Zone → Bool → Bool → Bool → Bool → Bool
+  programs z fus iss latch bar =
+      Bool·beq (granted (asked (fus && iss) latch bar z) (unopened r1 fus iss)) (allowed (fus && iss) latch z) &&
+      (not (allowed (fus && iss) latch z) || mild (effect (fus && iss) latch z) z)
+
+  agrees : Zone → Bool
+  unfolding every readable allowed rights granted mild effect
+  agrees z = every (reads z) && every (λ fus iss. every (programs z fus iss))
+
+  agreed : (z : Zone) → agrees z ≡ true
+  unfolding agrees
+  agreed FZ = refl
+  agreed IZ = refl
+  agreed SC = refl
+  agreed SCAC = refl
+  agreed CPZ = refl
+  agreed AZ = refl
+  agreed EZ = refl
+  agreed EC = refl
+  agreed MTZ = refl
+  agreed MFZ = refl
+  agreed Block = refl
+  agreed FuseMF = refl
+  agreed FuseECEN = refl
+  agreed FuseISS = refl
+  agreed Gap = refl
+
+  module _ (fus iss : Bool) (z : Zone) where
+    read-agrees : granted (rights (fus && iss) z .read) (unopened false fus iss) ≡ readable z
+    unfolding agrees
+    read-agrees = beq-true _ _ (of-every (reads z) (and-left _ _ (agreed z)) fus iss)
+
+    programs-agree : (latch bar : Bool) → programs z fus iss latch bar ≡ true
+    unfolding agrees
+    programs-agree =
+        of-every (programs z fus iss)
+        (of-every (λ f i. every (programs z f i)) (and-right (every (reads z)) _ (agreed z)) fus iss)
+
+    program-agrees :
+        (latch bar : Bool) → granted (asked (fus && iss) latch bar z) (unopened r1 fus iss) ≡ allowed (fus && iss) latch z
+    program-agrees latch bar = beq-true _ _ (and-left _ _ (programs-agree latch bar))
+
+    effect-mild : (latch : Bool) → (not (allowed (fus && iss) latch z) || mild (effect (fus && iss) latch z) z) ≡ true
+    effect-mild latch =
+        and-right (Bool·beq (granted (asked (fus && iss) latch false z) (unopened r1 fus iss)) (allowed (fus && iss) latch z)) _
+        (programs-agree latch false)
+
+-- The same of whatever is there, SV being 0.
+without-sv :
+    (h : Held) (r1 : Bool) → h .sv ≡ false → h .r1 ≡ r1 → h ≡ unopened (h .p1) r1 (h .e1) (h .mf) r1 (h .fus) (h .iss)
+without-sv h r1 e f i =
+    record { sv = e i; p1 = h .p1; r1 = f i; e1 = h .e1; mf = h .mf; iss = h .iss; fus = h .fus }
+
+pub mayRead-readable : (h : Held) (z : Zone) → h .sv ≡ false → h .r1 ≡ false → mayRead h z ≡ readable z
+unfolding mayRead level1
+mayRead-readable h z e f =
+    ap (λ (x : Held). mayRead x z) (without-sv h false e f) ∙ read-agrees (h .p1) false (h .e1) (h .mf) (h .fus) (h .iss) z
+
+-- What CLK's fall in programming carries out without SV, of level, RST, latch and zone alone.
+pub mildOperation : Bool → Bool → Bool → Zone → Operation
+unfolding allowed
+mildOperation l1 rst latch z = cond (Bool·beq rst (isFuse z) && allowed l1 latch z) (effect l1 latch z) Nothing
+
+pub operation-mild :
+    (h : Held) (ec-en rst latch : Bool) (a : ℕ) → h .sv ≡ false →
+    operation h ec-en rst latch a ≡ mildOperation (level1 h) rst latch (zone a)
+unfolding operation mayProgram asks barred mildOperation level1 is
+operation-mild h ec-en rst latch a e =
+    let l1 : Bool = h .fus && h .iss in
+    let bar : Bool = not l1 && (not ec-en && not (eqb a 1232)) in
+    ap (λ (x : Held). operation x ec-en rst latch a) (without-sv h (h .r1) e refl) ∙
+    rw (program-agrees (h .p1) (h .r1) (h .e1) (h .mf) (h .fus) (h .iss) (zone a) latch bar)
+
+pub readable-seen : (a : ℕ) → readable (zone a) ≡ true → hidden a ≡ false
+unfolding readable is
+readable-seen a e = go (hidden a) refl
+  where
+    not-at : (k : ℕ) → (ltb k 10 && not (eqb k 2 || (eqb k 5 || eqb k 6))) ≡ false → row (zone a) ≡ k → ⊥
+    not-at k n q = true≢false (sym (rw q at e) ∙ n)
+
+    go : (t : Bool) → hidden a ≡ t → t ≡ false
+    go false h = refl
+    go true h =
+        absurd
+        (in-hidden ⊥ a h (λ l u. not-at 2 refl (placed a .sc l u)) (λ l u. not-at 5 refl (placed a .az l u))
+        (λ l u. not-at 6 refl (placed a .ez l u)))
+
+chosen-mild : (t u : Bool) (op : Operation) (z : Zone) → (not u || mild op z) ≡ true → mild (cond (t && u) op Nothing) z ≡ true
+unfolding mild
+chosen-mild true true op z f = f
+chosen-mild true false op z f = refl
+chosen-mild false u op z f = refl
+
+mild-operation :
+    (h : Held) (ec-en rst latch : Bool) (a : ℕ) → h .sv ≡ false → mild (operation h ec-en rst latch a) (zone a) ≡ true
+unfolding mildOperation level1
+mild-operation h ec-en rst latch a e =
+    rw (operation-mild h ec-en rst latch a e)
+    (chosen-mild (Bool·beq rst (isFuse (zone a))) (allowed (h .fus && h .iss) latch (zone a)) _ (zone a)
+    (effect-mild (h .p1) (h .r1) (h .e1) (h .mf) (h .fus) (h .iss) (zone a) latch))
+
+-- What holds of each of these holds of an operation without SV.
+mild-cases :
+    (P : Operation → Type 0) (a : ℕ) (op : Operation) → mild op (zone a) ≡ true → P Nothing → (hidden a ≡ false → P WriteBit) →
+    (a / 16 ≡ 85 → P EraseWord) → P BlowECEN → P op
+unfolding mild is
+mild-cases P a Nothing e nothing writes erases blows = nothing
+mild-cases P a WriteBit e nothing writes erases blows = writes (readable-seen a e)
+mild-cases P a EraseWord e nothing writes erases blows = erases (placed a .mtz (eqb-true (row (zone a)) 8 e))
+mild-cases P a EraseZone e nothing writes erases blows = absurd (false≢true e)
+mild-cases P a WriteBlock e nothing writes erases blows = absurd (false≢true e)
+mild-cases P a EraseBlock e nothing writes erases blows = absurd (false≢true e)
+mild-cases P a BlowMF e nothing writes erases blows = absurd (false≢true e)
+mild-cases P a BlowECEN e nothing writes erases blows = blows
+mild-cases P a BlowISS e nothing writes erases blows = absurd (false≢true e)
+
+hidden-below : (b : ℕ) → hidden b ≡ true → b < 1360
+hidden-below b h = in-hidden (b < 1360) b h (omega arith) (omega arith) (omega arith)
+
+-- The MTZ word's erase leaves what is below it.
+erased-above : (m : List ℕ) (a b : ℕ) → a / 16 ≡ 85 → b < 1360 → bit (erasedWord m a) b ≡ bit m b
+erased-above m a b w h = rw (bit-erased m a b, ne-eqb (a / 16) (b / 16) (omega arith))
+
+-- What an operation without SV does, of the card that it is carried out on.
+module _ (h : Held) (ec-en rst latch : Bool) (a : ℕ) (shut : h .sv ≡ false) where
+  abbrev op : Operation
+  op = operation h ec-en rst latch a
+
+  cases : (P : Operation → Type 0) → P Nothing → (hidden a ≡ false → P WriteBit) → (a / 16 ≡ 85 → P EraseWord) → P BlowECEN → P op
+  cases P = mild-cases P a op (mild-operation h ec-en rst latch a shut)
+
+  pub mild-length : (m : List ℕ) → length (memoryAfter op a m) ≡ length m
+  unfolding memoryAfter
+  mild-length m =
+      cases (λ (o : Operation). length (memoryAfter o a m) ≡ length m) refl (λ _. length-written m a) (λ _. length-erased m a) refl
+
+  pub mild-keeps-hidden : (m : List ℕ) (b : ℕ) → hidden b ≡ true → bit (memoryAfter op a m) b ≡ bit m b
+  unfolding memoryAfter
+  mild-keeps-hidden m b in-zone =
+      cases (λ (o : Operation). bit (memoryAfter o a m) b ≡ bit m b) refl
+      (λ (seen : hidden a ≡ false).
+      rw (bit-written m a b, ne-eqb a b (λ (q : a ≡ b). true≢false (sym in-zone ∙ (sym (ap hidden q) ∙ seen)))))
+      (λ (w : a / 16 ≡ 85). erased-above m a b w (hidden-below b in-zone)) refl
+
+  pub mild-keeps-zeros : (m : List ℕ) (b : ℕ) → b < 1360 → bit m b ≡ false → bit (memoryAfter op a m) b ≡ false
+  unfolding memoryAfter
+  mild-keeps-zeros m b low zero-bit =
+      cases (λ (o : Operation). bit (memoryAfter o a m) b ≡ false) zero-bit
+      (λ _. rw (bit-written m a b, zero-bit) (and-false (not (eqb a b))))
+      (λ (w : a / 16 ≡ 85). erased-above m a b w low ∙ zero-bit) zero-bit
+
+  pub mild-keeps-equal :
+      (m m′ : List ℕ) (b : ℕ) → length m ≡ length m′ → bit m b ≡ bit m′ b →
+      bit (memoryAfter op a m) b ≡ bit (memoryAfter op a m′) b
+  unfolding memoryAfter
+  mild-keeps-equal m m′ b l e =
+      cases (λ (o : Operation). bit (memoryAfter o a m) b ≡ bit (memoryAfter o a m′) b) e
+      (λ _. rw (bit-written m a b, bit-written m′ a b, e)) (λ _. rw (bit-erased m a b, bit-erased m′ a b, l, e)) e
+
+  -- Only a write that turns a bit opens.
+  pub mild-shuts : (m : List ℕ) (matched : Bool) → (between 96 103 a ≡ true → bit m a ≡ false) → opens op m a matched ≡ false
+  unfolding opens turns
+  mild-shuts m matched spent = go (between 96 103 a) refl
+    where
+      unturned : bit m a ≡ false → turns op m a ≡ false
+      unturned zero-bit = cases (λ (o : Operation). turns o m a ≡ false) refl (λ _. zero-bit) (λ _. refl) refl
+
+      go : (t : Bool) → between 96 103 a ≡ t → (t && (matched && turns op m a)) ≡ false
+      go true e = rw (unturned (spent e)) (and-false matched)
+      go false e = refl

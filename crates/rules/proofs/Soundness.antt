@@ -1,0 +1,413 @@
+-- 01: "A state that 9 lets pass never leads to one that 9 refuses." By cases on the edge.
+use Prim.Native.Nat.{ℕ, zero, suc, _≤_, _<_, _/_}
+use mathlib.Core.Path.{_≡_, refl, ap, _∙_}
+use mathlib.Core.Bool.{Bool, true, false, cond, not, _&&_, _||_, false≢true, true≢false, and-false, or-true}
+use mathlib.Core.List.{List}
+use native.Mathlib.Omega.{arith}
+use lib.Dec.{eqb, leb, ltb}
+use lib.ListN.{length}
+use borrow.Author.Tests.{ltb-false, le-ltb, eqb-true, eq-eqb, not-false, leb-true}
+use Rattle.memory.specs.Image.{bytes, digit, cleared, bit}
+use Rattle.memory.proofs.Laws.{length-written, length-erased, length-filled}
+use Rattle.rules.specs.declared.Operation.{Operation}
+use Rattle.rules.specs.declared.Operation.the-variants.{Nothing, WriteBit, EraseWord, EraseZone}
+use Rattle.rules.specs.declared.Operation.the-variants.{WriteBlock, EraseBlock, BlowMF, BlowECEN, BlowISS}
+use Rattle.rules.specs.Halves.{Volatile, Card, off, blown, EC-EN, unblown}
+use Rattle.rules.specs.Lines.{Line, VCC, RST, CLK, PGM, IO, FUS, place, high, Edge, Same, Rises, Falls, Many, edge}
+use Rattle.rules.specs.Zones.{between, last}
+use Rattle.rules.specs.Rights.{held, level1}
+use Rattle.rules.specs.Programming.{memoryAfter, fusesAfter}
+use Rattle.rules.specs.Match.{compared, following, endsMatch}
+use Rattle.rules.specs.Steps.{follows, withVolatile, vccFalls, clkRises, rstFalls, programmed, unlatched, clocked, clkFalls}
+use Rattle.rules.specs.Steps.{powered, next}
+use Rattle.rules.specs.Refusals.{edgeRefusal, refusal, anySet, madeUp, stateRefusal}
+use Rattle.rules.specs.Demands.{Sound-stays-sound}
+use Rattle.rules.proofs.Tests.{cond-cases, peel, neither, guarded, all, below-then, below₂, Moved, edge-rises, edge-falls}
+
+-- Where match may hold, and E1.
+unfoldable pub mayMatch : ℕ → Bool
+mayMatch a = between 81 103 a || between 1201 1359 a
+
+unfoldable pub mayE1 : ℕ → Bool
+mayE1 a = between 1232 1519 a
+
+-- 9's clauses on the latch and programming, at these levels.
+pub record Wired (lines : ℕ) (latch programming : Bool) : Type 0 where
+  pub latched : latch ≡ true → high CLK lines ≡ true
+  pub under-way : programming ≡ true → high CLK lines ≡ true
+  pub started : high VCC lines ≡ true → high CLK lines ≡ true → high PGM lines ≡ true → programming ≡ true
+
+-- 9's clauses on the address.
+pub record Placed (a : ℕ) (matched e1 : Bool) : Type 0 where
+  pub within : a ≤ last
+  pub matching : matched ≡ true → mayMatch a ≡ true
+  pub e1-held : e1 ≡ true → mayE1 a ≡ true
+
+pub record Sound (v : Volatile) : Type 0 where
+  pub levels : v .lines < 64
+  pub unpowered : (not (high VCC (v .lines)) && anySet v) ≡ false
+  pub wired : Wired (v .lines) (v .latch) (v .programming)
+  pub placed : Placed (v .address) (v .matched) (v .e1)
+
+pub sound : (v : Volatile) → madeUp v ≡ false → Sound v
+unfolding madeUp mayMatch mayE1
+sound v e =
+    let l = neither (ltb 63 (v .lines)) _ e in
+    let a = neither (ltb last (v .address)) _ (l .1) in
+    let p = neither (not (high VCC (v .lines)) && anySet v) _ (a .1) in
+    let d = neither (v .latch && not (high CLK (v .lines))) _ (p .1) in
+    let u = neither (v .programming && not (high CLK (v .lines))) _ (d .1) in
+    let s = neither (high VCC (v .lines) && (high CLK (v .lines) && (high PGM (v .lines) && not (v .programming)))) _ (u .1) in
+    let m = neither (v .matched && not (mayMatch (v .address))) _ (s .1) in
+    record {
+      levels = omega (arith, ltb-false 63 (v .lines) (l .0));
+      unpowered = p .0;
+      wired =
+          record {
+            latched = λ q. not-false (high CLK (v .lines)) (cc);
+            under-way = λ q. not-false (high CLK (v .lines)) (cc);
+            started = λ x y z. not-false (v .programming) (cc);
+          };
+      placed =
+          record {
+            within = ltb-false last (v .address) (a .0);
+            matching = λ q. not-false (mayMatch (v .address)) (cc);
+            e1-held = λ q. not-false (mayE1 (v .address)) (cc);
+          };
+    }
+
+pub unmade : (v : Volatile) → Sound v → madeUp v ≡ false
+unfolding madeUp mayMatch mayE1
+unmade v s =
+    let l = v .lines in
+    let w = s .wired in
+    let p = s .placed in
+    cc (
+      le-ltb 63 l (omega (arith, s .levels)),
+      le-ltb last (v .address) (p .within),
+      guarded (v .latch) (not (high CLK l)) (λ q. ap not (w .latched q)),
+      guarded (v .programming) (not (high CLK l)) (λ q. ap not (w .under-way q)),
+      guarded (high VCC l) _ (λ x. guarded (high CLK l) _ (λ y. guarded (high PGM l) (not (v .programming)) (λ z. ap not (w .started x y z)))),
+      guarded (v .matched) (not (mayMatch (v .address))) (λ q. ap not (p .matching q)),
+      guarded (v .e1) (not (mayE1 (v .address))) (λ q. ap not (p .e1-held q)),
+    )
+
+pub record SoundCard (c : Card) : Type 0 where
+  pub sized : length (c .memory) ≡ bytes
+  pub fused : c .fuses ≤ 7
+  pub half : Sound (c .volatile)
+
+pub let-pass : (c : Card) → stateRefusal (c .memory) (c .fuses) (c .volatile) ≡ 0 → SoundCard c
+unfolding stateRefusal
+let-pass c e =
+    let m = peel (not (eqb (length (c .memory)) bytes)) 9 _ e in
+    let f = peel (ltb 7 (c .fuses)) 13 _ (m .1) in
+    let v = peel (madeUp (c .volatile)) 8 0 (f .1) in
+    record {
+      sized = eqb-true (length (c .memory)) bytes (not-false _ (m .0));
+      fused = ltb-false 7 (c .fuses) (f .0);
+      half = sound (c .volatile) (v .0);
+    }
+
+pub passes : (c : Card) → SoundCard c → stateRefusal (c .memory) (c .fuses) (c .volatile) ≡ 0
+unfolding stateRefusal
+passes c s =
+    cc (eq-eqb (length (c .memory)) bytes (s .sized), le-ltb 7 (c .fuses) (s .fused), unmade (c .volatile) (s .half))
+
+-- With VCC on, 9 asks for no more than its clauses on lines and address.
+on-sound :
+    (v : Volatile) → v .lines < 64 → high VCC (v .lines) ≡ true → Wired (v .lines) (v .latch) (v .programming) →
+    Placed (v .address) (v .matched) (v .e1) → Sound v
+on-sound v l p w a = record { levels = l; unpowered = cc; wired = w; placed = a }
+
+-- Nothing is latched and no programming is under way, VCC or CLK being low.
+idle-wired : (n : ℕ) → (high VCC n ≡ true → high CLK n ≡ false) → Wired n false false
+idle-wired n e =
+    record {
+      latched = λ q. absurd (false≢true q);
+      under-way = λ q. absurd (false≢true q);
+      started = λ x y z. cc (e x);
+    }
+
+at-zero : Placed 0 false false
+at-zero =
+    record {
+      within = omega arith;
+      matching = λ q. absurd (false≢true q);
+      e1-held = λ q. absurd (false≢true q);
+    }
+
+-- A flag that comes up where t, and else stays.
+set-or-kept : (t x flag may : Bool) → (t && x || flag) ≡ true → (flag ≡ true → may ≡ true) → (t || may) ≡ true
+set-or-kept true x flag may e f = refl
+set-or-kept false x flag may e f = f e
+
+-- A flag that ends where t, and else stays.
+ended-or-kept : (t flag may : Bool) → (not t && flag) ≡ true → (flag ≡ true → (t || may) ≡ true) → may ≡ true
+ended-or-kept true flag may e f = absurd (false≢true e)
+ended-or-kept false flag may e f = f e
+
+-- Match after the compare.
+compared-or-kept :
+    (code key x y matched may : Bool) → cond code x (cond key y matched) ≡ true → (matched ≡ true → may ≡ true) →
+    (code || (key || may)) ≡ true
+compared-or-kept true key x y matched may e f = refl
+compared-or-kept false true x y matched may e f = refl
+compared-or-kept false false x y matched may e f = f e
+
+-- One computed test over the addresses: what p says of an address, q says too.
+addressed : (p q : ℕ → Bool) → all 1520 (λ a. not (p a) || q a) ≡ true → (a : ℕ) → a ≤ last → p a ≡ true → q a ≡ true
+addressed p q e a h = below-then 1520 p q e a (omega arith)
+
+-- An operation sets E1 only in EC.
+programmed-placed :
+    (a : ℕ) (matched e1 x : Bool) → Placed a matched e1 → Placed a matched (between 1232 1359 a && x || e1)
+unfolding between mayE1 all
+programmed-placed a matched e1 x p =
+    record {
+      within = p .within;
+      matching = p .matching;
+      e1-held =
+          λ q.
+          addressed (λ b. between 1232 1359 b || mayE1 b) mayE1 refl a (p .within)
+          (set-or-kept (between 1232 1359 a) x e1 (mayE1 a) q (p .e1-held));
+    }
+
+-- The next address: match comes up by a compare at 80 to 95 or 1200 to 1231 and ends at 104 and 1360; E1 comes up at 1232 and ends at 0.
+clocked-placed :
+    (a : ℕ) (l1 sv latch stored matched e1 x : Bool) → Placed a matched e1 →
+    let b = following a in
+    let k = compared l1 sv latch stored a matched in
+    Placed b (not (endsMatch b) && k) (not (eqb b 0) && (eqb b 1232 && (x && k) || e1))
+unfolding between mayMatch mayE1 all following endsMatch compared
+clocked-placed a l1 sv latch stored matched e1 x p =
+    let b = following a in
+    let k = compared l1 sv latch stored a matched in
+    record {
+      within = leb-true b last (addressed (λ o. true) (λ o. leb (following o) last) refl a (p .within) refl);
+      matching =
+          λ q.
+          ended-or-kept (endsMatch b) k (mayMatch b) q
+          (λ h.
+          addressed (λ o. between 80 95 o || (between 1200 1231 o || mayMatch o)) (λ o. endsMatch (following o) || mayMatch (following o)) refl
+          a (p .within)
+          (compared-or-kept (between 80 95 a) (between 1200 1231 a) _ _ matched (mayMatch a) h (p .matching)));
+      e1-held =
+          λ q.
+          ended-or-kept (eqb b 0) (eqb b 1232 && (x && k) || e1) (mayE1 b) q
+          (λ h.
+          addressed (λ o. eqb (following o) 1232 || mayE1 o) (λ o. eqb (following o) 0 || mayE1 (following o)) refl a (p .within)
+          (set-or-kept (eqb b 1232) (x && k) e1 (mayE1 a) h (p .e1-held)));
+    }
+
+-- A blown fuse makes the fuse byte no greater.
+cleared-le : (k x : ℕ) → cleared k x ≤ x
+unfolding cleared
+cleared-le zero x = omega arith
+cleared-le (suc k) x = omega (arith, cleared-le k (x / 2))
+
+programmed-fused : (op : Operation) (f : ℕ) → f ≤ 7 → fusesAfter op f ≤ 7
+unfolding fusesAfter blown
+programmed-fused Nothing f h = h
+programmed-fused WriteBit f h = h
+programmed-fused EraseWord f h = h
+programmed-fused EraseZone f h = h
+programmed-fused WriteBlock f h = h
+programmed-fused EraseBlock f h = h
+programmed-fused BlowMF f h = omega (arith, cleared-le 0 f)
+programmed-fused BlowECEN f h = omega (arith, cleared-le 1 f)
+programmed-fused BlowISS f h = omega (arith, cleared-le 2 f)
+
+programmed-sized : (op : Operation) (a : ℕ) (m : List ℕ) → length (memoryAfter op a m) ≡ length m
+unfolding memoryAfter
+programmed-sized Nothing a m = refl
+programmed-sized WriteBit a m = length-written m a
+programmed-sized EraseWord a m = length-erased m a
+programmed-sized EraseZone a m = length-filled 22 128 255 m
+programmed-sized WriteBlock a m = length-filled 2 168 0 m
+programmed-sized EraseBlock a m = length-filled 2 168 255 m
+programmed-sized BlowMF a m = refl
+programmed-sized BlowECEN a m = refl
+programmed-sized BlowISS a m = refl
+
+-- 7 keeps VCC down while CLK or PGM is high.
+unready : ℕ → ℕ → Bool
+unready levels n =
+    not (not (high VCC levels) && (high VCC n && (high CLK n && high PGM n))) || not (eqb (edgeRefusal (edge levels n) levels false) 0)
+
+vcc-rises : (levels n : ℕ) → levels < 64 → n < 64 → unready levels n ≡ true
+unfolding unready digit edge edgeRefusal all
+vcc-rises = below₂ 64 64 unready refl
+
+module _ (c : Card) (n : ℕ) (s : SoundCard c) (small : n < 64) where
+  abbrev v : Volatile
+  v = c .volatile
+
+  -- The present levels.
+  abbrev now : ℕ
+  now = v .lines
+
+  -- Memory and fuses are as they were.
+  lasting : (w : Volatile) → Sound w → SoundCard (withVolatile c w)
+  lasting w h = record { sized = s .sized; fused = s .fused; half = h }
+
+  abbrev rose : (x : Line) → edge now n ≡ Rises x → Moved x false now n
+  rose x e = edge-rises x now n (s .half .levels) small e
+
+  abbrev fell : (x : Line) → edge now n ≡ Falls x → Moved x true now n
+  fell x e = edge-falls x now n (s .half .levels) small e
+
+  module _ (on : high VCC now ≡ true) where
+    wired-kept :
+        high VCC n ≡ true → high CLK n ≡ high CLK now → (high CLK n ≡ true → high PGM n ≡ true → high PGM now ≡ true) →
+        Wired n (v .latch) (v .programming)
+    wired-kept vcc clk pgm =
+        record {
+          latched = λ q. clk ∙ s .half .wired .latched q;
+          under-way = λ q. clk ∙ s .half .wired .under-way q;
+          started = λ x y z. s .half .wired .started on (cc) (pgm y z);
+        }
+
+    -- Neither VCC nor CLK moves.
+    lines-follow :
+        (x : Line) {was : Bool} → Moved x was now n → eqb (place VCC) (place x) ≡ false → eqb (place CLK) (place x) ≡ false →
+        (high CLK n ≡ true → high PGM n ≡ true → high PGM now ≡ true) → SoundCard (withVolatile c (follows n v))
+    unfolding follows
+    lines-follow x m p q pgm =
+        let vcc : high VCC n ≡ true = m .others VCC p ∙ on in
+        lasting (follows n v)
+        (on-sound (follows n v) small vcc (wired-kept vcc (m .others CLK q) pgm) (s .half .placed))
+
+    -- Nor does PGM.
+    plain-follow :
+        (x : Line) {was : Bool} → Moved x was now n → eqb (place VCC) (place x) ≡ false → eqb (place CLK) (place x) ≡ false →
+        eqb (place PGM) (place x) ≡ false → SoundCard (withVolatile c (follows n v))
+    plain-follow x m p q r = lines-follow x m p q (λ _ z. cc (m .others PGM r))
+
+    -- 6 keeps PGM down while CLK is high.
+    pgm-rises : edgeRefusal (Rises PGM) now (v .programming) ≡ 0 → high CLK now ≡ true → ⊥
+    unfolding edgeRefusal
+    pgm-rises r clk =
+        let six : edgeRefusal (Rises PGM) now (v .programming) ≡ 6 = cc (and-false (v .programming)) in
+        omega arith
+
+    clk-rises : Moved CLK false now n → SoundCard (withVolatile c (clkRises n v))
+    unfolding clkRises place
+    clk-rises m =
+        lasting (clkRises n v)
+        (on-sound (clkRises n v) small (m .others VCC refl ∙ on)
+        (record { latched = λ q. m .after; under-way = λ q. m .after; started = λ x y z. z })
+        (s .half .placed))
+
+    rst-falls : Moved RST true now n → SoundCard (rstFalls n c)
+    unfolding rstFalls place
+    rst-falls m =
+        lasting (rstFalls n c .volatile)
+        (on-sound (rstFalls n c .volatile) small (m .others VCC refl ∙ on)
+        (wired-kept (m .others VCC refl ∙ on) (m .others CLK refl) (λ _ z. cc (m .others PGM refl)))
+        at-zero)
+
+    module _ (m : Moved CLK true now n) where
+      -- A volatile half that CLK's fall leaves.
+      fallen :
+          (w : Volatile) → w .lines ≡ n → w .latch ≡ false → w .programming ≡ false → Placed (w .address) (w .matched) (w .e1) → Sound w
+      unfolding place
+      fallen w l d u p = on-sound w (rw l small) (rw l (m .others VCC refl ∙ on)) (rw (l, d, u) (idle-wired n (λ _. m .after))) p
+
+      clk-falls-programming : (op : Operation) → SoundCard (programmed op n c)
+      unfolding programmed
+      clk-falls-programming op =
+          record {
+            sized = programmed-sized op (v .address) (c .memory) ∙ s .sized;
+            fused = programmed-fused op (c .fuses) (s .fused);
+            half =
+                fallen (programmed op n c .volatile) refl refl refl
+                (programmed-placed (v .address) (v .matched) (v .e1) _ (s .half .placed));
+          }
+
+      clk-falls-clocked : SoundCard (clocked n c)
+      unfolding clocked
+      clk-falls-clocked =
+          lasting (clocked n c .volatile)
+          (fallen _ refl refl refl
+          (clocked-placed (v .address) (level1 (held (c .fuses) v)) (v .sv) (v .latch) (bit (c .memory) (v .address)) (v .matched) (v .e1)
+          (not (unblown EC-EN (c .fuses))) (s .half .placed)))
+
+      clk-falls : SoundCard (clkFalls n c)
+      unfolding clkFalls
+      clk-falls =
+          cond-cases SoundCard (v .programming) (λ _. clk-falls-programming _)
+          (λ _.
+          cond-cases SoundCard (high RST now)
+          (λ _. lasting (unlatched n (v .matched) v) (fallen _ refl refl refl (s .half .placed)))
+          (λ _. clk-falls-clocked))
+
+    vcc-falls : Moved VCC true now n → SoundCard (vccFalls n c)
+    unfolding vccFalls off anySet
+    vcc-falls m =
+        lasting (off n)
+        (record {
+          levels = small;
+          unpowered = guarded (not (high VCC n)) false (λ _. refl);
+          wired = idle-wired n (λ x. cc);
+          placed = at-zero;
+        })
+
+    by-edge : (e : Edge) → edge now n ≡ e → edgeRefusal e now (v .programming) ≡ 0 → SoundCard (powered e n c)
+    unfolding powered place
+    by-edge Same e r = s
+    by-edge Many e r = s
+    by-edge (Rises VCC) e r = absurd (true≢false (cc (rose VCC e .before)))
+    by-edge (Rises RST) e r = plain-follow RST (rose RST e) refl refl refl
+    by-edge (Rises CLK) e r = clk-rises (rose CLK e)
+    by-edge (Rises PGM) e r =
+        lines-follow PGM (rose PGM e) refl refl (λ y _. absurd (pgm-rises r (cc (rose PGM e .others CLK refl))))
+    by-edge (Rises IO) e r = plain-follow IO (rose IO e) refl refl refl
+    by-edge (Rises FUS) e r = plain-follow FUS (rose FUS e) refl refl refl
+    by-edge (Falls VCC) e r = vcc-falls (fell VCC e)
+    by-edge (Falls RST) e r = rst-falls (fell RST e)
+    by-edge (Falls CLK) e r = clk-falls (fell CLK e)
+    by-edge (Falls PGM) e r = lines-follow PGM (fell PGM e) refl refl (λ _ z. cc (fell PGM e .after))
+    by-edge (Falls IO) e r = plain-follow IO (fell IO e) refl refl refl
+    by-edge (Falls FUS) e r = plain-follow FUS (fell FUS e) refl refl refl
+
+  unpowered-follow :
+      edgeRefusal (edge now n) now (v .programming) ≡ 0 → high VCC now ≡ false →
+      SoundCard (withVolatile c (follows n v))
+  unfolding follows anySet unready
+  unpowered-follow r o =
+      lasting (follows n v)
+      (record {
+        levels = small;
+        unpowered = guarded (not (high VCC n)) (anySet v) (λ _. nothing);
+        wired =
+            record {
+              latched = λ q. let any : anySet v ≡ true = simp (q, or-true) in cc;
+              under-way = λ q. let any : anySet v ≡ true = simp (q, or-true) in cc;
+              started = λ x y z. go x y z (v .programming) refl;
+            };
+        placed = s .half .placed;
+      })
+    where
+      nothing : anySet v ≡ false
+      nothing = cc (s .half .unpowered)
+
+      go : high VCC n ≡ true → high CLK n ≡ true → high PGM n ≡ true → (b : Bool) → v .programming ≡ b → b ≡ true
+      go x y z true e = refl
+      go x y z false e = cc (vcc-rises now n (s .half .levels) small)
+
+pub sound-stays-sound : Sound-stays-sound
+unfolding refusal next
+sound-stays-sound c n e r =
+    passes (next c n)
+    (cond-cases SoundCard (high VCC (c .volatile .lines)) (λ on. by-edge c n s small on (edge (c .volatile .lines) n) refl (p .1))
+    (λ o. unpowered-follow c n s small (p .1) o))
+  where
+    p : (ltb 63 n ≡ false) × (edgeRefusal (edge (c .volatile .lines) n) (c .volatile .lines) (c .volatile .programming) ≡ 0)
+    p = peel (ltb 63 n) 0 (edgeRefusal (edge (c .volatile .lines) n) (c .volatile .lines) (c .volatile .programming)) r
+
+    s : SoundCard c
+    s = let-pass c e
+
+    small : n < 64
+    small = omega (arith, ltb-false 63 n (p .0))

@@ -1,0 +1,136 @@
+-- One step, by cases, once: a step of a card is one of eight ways, and which one it is depends on lines, programming and step alone.
+use Prim.Native.Nat.{ℕ}
+use mathlib.Core.Path.{_≡_, refl}
+use mathlib.Core.Bool.{Bool, true, false, cond}
+use mathlib.Core.List.{List, [], _∷_}
+use lib.Dec.{eqb}
+use borrow.Author.Tests.{eqb-true}
+use Rattle.rules.specs.declared.Operation.{Operation}
+use Rattle.rules.specs.Halves.{Volatile, Card, EC-EN, unblown}
+use Rattle.rules.specs.Lines.{VCC, RST, CLK, PGM, IO, FUS, high, Edge, Same, Rises, Falls, Many, edge}
+use Rattle.rules.specs.Rights.{held}
+use Rattle.rules.specs.Programming.{operation}
+use Rattle.rules.specs.Steps.{follows, withVolatile, vccFalls, clkRises, rstFalls, programmed, unlatched, clocked, clkFalls, powered, next}
+use Rattle.rules.specs.Refusals.{refusal}
+use Rattle.rules.specs.Card.{Ran, stepped, run}
+use Rattle.rules.specs.Demands.{after}
+use Rattle.rules.proofs.Tests.{cond-cases}
+
+-- Refused or without a difference; the lines only follow; CLK rises; VCC falls; RST falls; CLK falls in programming, with RST high, and
+-- otherwise.
+pub data Way : Type 0 where
+  Keeps Follows Latches SwitchesOff Resets Programs Unlatches Clocks : Way
+
+-- The operation that CLK's fall in programming carries out.
+abbrev pub operationOf : Card → Operation
+operationOf c =
+    operation (held (c .fuses) (c .volatile)) (unblown EC-EN (c .fuses)) (high RST (c .volatile .lines)) (c .volatile .latch)
+    (c .volatile .address)
+
+unfoldable pub moved : Way → ℕ → Card → Card
+moved Keeps n c = c
+moved Follows n c = withVolatile c (follows n (c .volatile))
+moved Latches n c = withVolatile c (clkRises n (c .volatile))
+moved SwitchesOff n c = vccFalls n c
+moved Resets n c = rstFalls n c
+moved Programs n c = programmed (operationOf c) n c
+moved Unlatches n c = withVolatile c (unlatched n (c .volatile .matched) (c .volatile))
+moved Clocks n c = clocked n c
+
+clkFell : Bool → Bool → Way
+clkFell programming rst = cond programming Programs (cond rst Unlatches Clocks)
+
+poweredWay : Edge → ℕ → Bool → Way
+unfolding clkFell
+poweredWay Same levels programming = Keeps
+poweredWay Many levels programming = Keeps
+poweredWay (Rises VCC) levels programming = Follows
+poweredWay (Rises RST) levels programming = Follows
+poweredWay (Rises CLK) levels programming = Latches
+poweredWay (Rises PGM) levels programming = Follows
+poweredWay (Rises IO) levels programming = Follows
+poweredWay (Rises FUS) levels programming = Follows
+poweredWay (Falls VCC) levels programming = SwitchesOff
+poweredWay (Falls RST) levels programming = Resets
+poweredWay (Falls CLK) levels programming = clkFell programming (high RST levels)
+poweredWay (Falls PGM) levels programming = Follows
+poweredWay (Falls IO) levels programming = Follows
+poweredWay (Falls FUS) levels programming = Follows
+
+pub way : Volatile → ℕ → Way
+unfolding poweredWay
+way v n =
+    cond (eqb (refusal v n) 0) (cond (high VCC (v .lines)) (poweredWay (edge (v .lines) n) (v .lines) (v .programming)) Follows) Keeps
+
+moved-cond : (b : Bool) (w w′ : Way) (n : ℕ) (c : Card) → moved (cond b w w′) n c ≡ cond b (moved w n c) (moved w′ n c)
+moved-cond true w w′ n c = refl
+moved-cond false w w′ n c = refl
+
+clk-fell : (n : ℕ) (c : Card) → clkFalls n c ≡ moved (clkFell (c .volatile .programming) (high RST (c .volatile .lines))) n c
+unfolding clkFalls clkFell moved
+clk-fell n c = go (c .volatile .programming) (high RST (c .volatile .lines))
+  where
+    go :
+        (programming rst : Bool) →
+        cond programming (moved Programs n c) (cond rst (moved Unlatches n c) (moved Clocks n c)) ≡ moved (clkFell programming rst) n c
+    go true rst = refl
+    go false true = refl
+    go false false = refl
+
+powered-moves : (e : Edge) (n : ℕ) (c : Card) → powered e n c ≡ moved (poweredWay e (c .volatile .lines) (c .volatile .programming)) n c
+unfolding powered poweredWay moved
+powered-moves Same n c = refl
+powered-moves Many n c = refl
+powered-moves (Rises VCC) n c = refl
+powered-moves (Rises RST) n c = refl
+powered-moves (Rises CLK) n c = refl
+powered-moves (Rises PGM) n c = refl
+powered-moves (Rises IO) n c = refl
+powered-moves (Rises FUS) n c = refl
+powered-moves (Falls VCC) n c = refl
+powered-moves (Falls RST) n c = refl
+powered-moves (Falls CLK) n c = clk-fell n c
+powered-moves (Falls PGM) n c = refl
+powered-moves (Falls IO) n c = refl
+powered-moves (Falls FUS) n c = refl
+
+stepped-moves : (c : Card) (n : ℕ) → stepped c n ≡ moved (way (c .volatile) n) n c
+unfolding stepped next way moved
+stepped-moves c n =
+    rw (
+      moved-cond (eqb (refusal (c .volatile) n) 0) _ _ n c,
+      moved-cond (high VCC (c .volatile .lines)) _ _ n c,
+      powered-moves (edge (c .volatile .lines) n) n c,
+    )
+
+-- Whatever a step does, it is one of the ways.
+pub step-cases : (P : Card → Type 0) (c : Card) (n : ℕ) → P (moved (way (c .volatile) n) n c) → P (stepped c n)
+step-cases P c n h = rw (stepped-moves c n) h
+
+pub same-refusal : (v v′ : Volatile) (n : ℕ) → v .lines ≡ v′ .lines → v .programming ≡ v′ .programming → refusal v n ≡ refusal v′ n
+unfolding refusal
+same-refusal v v′ n l p = cc
+
+pub same-way : (v v′ : Volatile) (n : ℕ) → v .lines ≡ v′ .lines → v .programming ≡ v′ .programming → way v n ≡ way v′ n
+unfolding way
+same-way v v′ n l p = cc (same-refusal v v′ n l p)
+
+-- An accepted step.
+pub accepted : (c : Card) (n : ℕ) → refusal (c .volatile) n ≡ 0 → stepped c n ≡ next c n
+unfolding stepped
+accepted c n e = rw e
+
+-- What every step keeps, every list of steps and every run keep.
+module _ (P : Card → Type 0) (step : (c : Card) (n : ℕ) → P c → P (stepped c n)) where
+  pub after-keeps : (c : Card) (ns : List ℕ) → P c → P (after c ns)
+  unfolding after
+  after-keeps c [] p = p
+  after-keeps c (n ∷ ns) p = after-keeps (stepped c n) ns (step c n p)
+
+  pub run-keeps : (c : Card) (ns : List ℕ) → P c → P (run c ns .card)
+  unfolding run
+  run-keeps c [] p = p
+  run-keeps c (n ∷ ns) p =
+      cond-cases (λ (r : Ran). P (r .card)) (eqb (refusal (c .volatile) n) 0)
+      (λ e. run-keeps (next c n) ns (rw (accepted c n (eqb-true (refusal (c .volatile) n) 0 e)) at (step c n p)))
+      (λ _. p)

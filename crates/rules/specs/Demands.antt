@@ -1,0 +1,159 @@
+-- The state check's promise and the user's demands 2 and 3, as statements about the definitions that the contracts of step, run and maker cite. The module
+-- `proofs.Demands` proves each under its own name.
+use Prim.Native.Nat.{ℕ, zero, suc, _+_, _<_, _≤_}
+use mathlib.Core.Path.{_≡_}
+use mathlib.Core.Bool.{Bool, true, false, _||_}
+use mathlib.Core.List.{List, [], _∷_}
+use lib.ListN.{length, getD, take}
+use Rattle.memory.specs.Image.{bytes, bit, written, erasedWord}
+use Rattle.rules.specs.declared.Answer.{Answer}
+use Rattle.rules.specs.Halves.{Card, off, fresh}
+use Rattle.rules.specs.Lines.{VCC, high}
+use Rattle.rules.specs.Zones.{between}
+use Rattle.rules.specs.Refusals.{refusal, madeUp, stateRefusal}
+use Rattle.rules.specs.Steps.{next}
+use Rattle.rules.specs.Card.{Ran, stepped, answered, run, checkedRun}
+use Rattle.rules.specs.Maker.{idle, digits, zerosBefore, open-card}
+
+-- 01: "A state that 9 lets pass never leads to one that 9 refuses." With it, an image of 174 bytes and a fuse byte up to 7 stay so.
+abbrev pub Sound-stays-sound : Type 0
+Sound-stays-sound =
+    (c : Card) (n : ℕ) → stateRefusal (c .memory) (c .fuses) (c .volatile) ≡ 0 → refusal (c .volatile) n ≡ 0 →
+    stateRefusal (next c n .memory) (next c n .fuses) (next c n .volatile) ≡ 0
+
+-- Demand 2: "On a powered, idle, unopened card, the maker's steps for showing a code and using a try that is still there open the card
+-- and restore its counter word if the code is right. If it is wrong they spend exactly one try and the card stays shut."
+
+-- "a powered, idle, unopened card" that 10, 14 and 9 let pass, whatever its address, match and other flags.
+pub record Idle (fus : Bool) (c : Card) : Type 0 where
+  pub sized : length (c .memory) ≡ bytes
+  pub fused : c .fuses ≤ 7
+  pub sound : madeUp (c .volatile) ≡ false
+  pub lines : c .volatile .lines ≡ idle fus
+  pub unopened : c .volatile .sv ≡ false
+
+-- The byte of bits 96 to 103.
+abbrev pub attempts : Card → ℕ
+attempts c = getD (c .memory) 12 0
+
+-- The first one of bits 96 to 103; it is there where it is below 104.
+abbrev pub firstTry : Card → ℕ
+firstTry c = 96 + zerosBefore 8 (attempts c)
+
+-- The bits a, a + 1, .. of an image, so many of them.
+unfoldable pub bitsFrom : List ℕ → ℕ → ℕ → List Bool
+bitsFrom m a zero = []
+bitsFrom m a (suc n) = bit m a ∷ bitsFrom m (a + 1) n
+
+-- The code equals bits 80 to 95.
+abbrev pub Right : ℕ → Card → Type 0
+Right code c = digits 16 code ≡ bitsFrom (c .memory) 80 16
+
+-- The maker's steps for this card and code, run.
+abbrev pub shown : Bool → ℕ → Card → Ran
+shown fus code c = run c (open-card fus code (attempts c))
+
+-- The code was right: SV is set, all 16 bits of the counter word are ones, and nothing else of memory or fuses has changed.
+pub record Opened (c : Card) (r : Ran) : Type 0 where
+  pub accepted : r .refused ≡ 0
+  pub opened : r .card .volatile .sv ≡ true
+  pub memory : r .card .memory ≡ erasedWord (c .memory) 96
+  pub restored : (a : ℕ) → bit (r .card .memory) a ≡ (between 96 111 a || bit (c .memory) a)
+  pub fuses : r .card .fuses ≡ c .fuses
+
+-- The code was wrong: SV is 0, and exactly one bit has changed, the first one of bits 96 to 103 to 0.
+pub record Spent (c : Card) (r : Ran) : Type 0 where
+  pub accepted : r .refused ≡ 0
+  pub shut : r .card .volatile .sv ≡ false
+  pub was : bit (c .memory) (firstTry c) ≡ true
+  pub spent : bit (r .card .memory) (firstTry c) ≡ false
+  pub kept : (a : ℕ) → (a ≡ firstTry c → ⊥) → bit (r .card .memory) a ≡ bit (c .memory) a
+  pub memory : r .card .memory ≡ written (c .memory) (firstTry c)
+  pub fuses : r .card .fuses ≡ c .fuses
+
+abbrev pub Right-code-opens : Type 0
+Right-code-opens =
+    (fus : Bool) (code : ℕ) (c : Card) → Idle fus c → firstTry c < 104 → Right code c → Opened c (shown fus code c)
+
+abbrev pub Wrong-code-spends-one-try : Type 0
+Wrong-code-spends-one-try =
+    (fus : Bool) (code : ℕ) (c : Card) → Idle fus c → firstTry c < 104 → (Right code c → ⊥) → Spent c (shown fus code c)
+
+-- Demand 3: "Take two cards, switched off with all lines low, alike in fuses and in every bit outside the security code, the erase key
+-- and the application zone, bit 177 being zero in both. Give both the same steps. Before the step at which either opens, their pin
+-- answers and refusals are equal and those three zones keep every bit."
+
+-- "the security code, the erase key and the application zone"
+unfoldable pub hidden : ℕ → Bool
+hidden a = between 80 95 a || (between 176 1199 a || between 1200 1231 a)
+
+pub record Alike (m m′ : List ℕ) : Type 0 where
+  pub sized : length m ≡ bytes
+  pub sized′ : length m′ ≡ bytes
+  pub outside : (a : ℕ) → hidden a ≡ false → bit m a ≡ bit m′ a
+  pub unreadable : bit m 177 ≡ false
+  pub unreadable′ : bit m′ 177 ≡ false
+
+-- "switched off with all lines low"
+abbrev pub freshCard : List ℕ → ℕ → Card
+freshCard m fuses = record { memory = m; fuses = fuses; volatile = fresh }
+
+-- The card after a list of steps. A refused step changes nothing, and the next one is tried.
+unfoldable pub after : Card → List ℕ → Card
+after c [] = c
+after c (n ∷ ns) = after (stepped c n) ns
+
+-- What each of the steps got: the pin's answer or the refusal.
+unfoldable pub answers : Card → List ℕ → List Answer
+answers c [] = []
+answers c (n ∷ ns) = answered c n ∷ answers (stepped c n) ns
+
+-- The card has not opened by the end of any part of the list: the list is one before the step at which it opens.
+unfoldable pub Unopened : Card → List ℕ → Type 0
+Unopened c ns = (k : ℕ) → after c (take k ns) .volatile .sv ≡ false
+
+-- The three zones hold every bit of m.
+abbrev pub ZonesKept : List ℕ → Card → Type 0
+ZonesKept m c = (a : ℕ) → hidden a ≡ true → bit (c .memory) a ≡ bit m a
+
+pub record Indistinguishable (m m′ : List ℕ) (fuses : ℕ) (ns : List ℕ) : Type 0 where
+  pub same : answers (freshCard m fuses) ns ≡ answers (freshCard m′ fuses) ns
+  pub kept : ZonesKept m (after (freshCard m fuses) ns)
+  pub kept′ : ZonesKept m′ (after (freshCard m′ fuses) ns)
+
+abbrev pub Hidden-before-opening : Type 0
+Hidden-before-opening =
+    (m m′ : List ℕ) (fuses : ℕ) (ns : List ℕ) → Alike m m′ → fuses ≤ 7 → Unopened (freshCard m fuses) ns →
+    Unopened (freshCard m′ fuses) ns → Indistinguishable m m′ fuses ns
+
+-- The same of a run, as its contract gives it.
+unfoldable pub UnopenedRun : Card → List ℕ → ℕ → Type 0
+UnopenedRun c ns room = (k : ℕ) → checkedRun c (take k ns) room .card .volatile .sv ≡ false
+
+pub record IndistinguishableRuns (m m′ : List ℕ) (fuses : ℕ) (ns : List ℕ) (room : ℕ) : Type 0 where
+  pub same : checkedRun (freshCard m fuses) ns room .answers ≡ checkedRun (freshCard m′ fuses) ns room .answers
+  pub refused : checkedRun (freshCard m fuses) ns room .refused ≡ checkedRun (freshCard m′ fuses) ns room .refused
+  pub kept : ZonesKept m (checkedRun (freshCard m fuses) ns room .card)
+  pub kept′ : ZonesKept m′ (checkedRun (freshCard m′ fuses) ns room .card)
+
+abbrev pub Hidden-in-a-run : Type 0
+Hidden-in-a-run =
+    (m m′ : List ℕ) (fuses : ℕ) (ns : List ℕ) (room : ℕ) → Alike m m′ → fuses ≤ 7 →
+    UnopenedRun (freshCard m fuses) ns room → UnopenedRun (freshCard m′ fuses) ns room →
+    IndistinguishableRuns m m′ fuses ns room
+
+-- "A card that is switched off with no try left never opens, whatever steps and power cuts follow."
+pub record NoTryLeft (c : Card) (levels : ℕ) : Type 0 where
+  pub sized : length (c .memory) ≡ bytes
+  pub fused : c .fuses ≤ 7
+  pub off : c .volatile ≡ off levels
+  pub unpowered : high VCC levels ≡ false
+  pub sound : madeUp (c .volatile) ≡ false
+  pub spent : (a : ℕ) → between 96 103 a ≡ true → bit (c .memory) a ≡ false
+
+abbrev pub Shut-for-good : Type 0
+Shut-for-good = (c : Card) (levels : ℕ) (ns : List ℕ) → NoTryLeft c levels → after c ns .volatile .sv ≡ false
+
+abbrev pub Shut-in-a-run : Type 0
+Shut-in-a-run =
+    (c : Card) (levels : ℕ) (ns : List ℕ) (room : ℕ) → NoTryLeft c levels → checkedRun c ns room .card .volatile .sv ≡ false

@@ -1,0 +1,13 @@
+pub mod Halves
+pub mod Lines
+pub mod Zones
+pub mod Rights
+pub mod Programming
+pub mod Match
+pub mod Steps
+pub mod Refusals
+pub mod Card
+pub mod Maker
+pub mod File
+pub mod Computing
+pub mod Demands

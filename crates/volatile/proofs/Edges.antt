@@ -1,0 +1,183 @@
+-- The masks that the code puts on the word, as what the edges do to the flags.
+use Prim.Native.Nat.{ℕ, _%_, _<_, _≤_}
+use native.Mathlib.Omega.{arith}
+use native.Mathlib.Nat.{mod-lt}
+use native.Mathlib.Decide.{ℕ-discrete}
+use mathlib.Core.Path.{_≡_, refl, sym, ap, _∙_}
+use mathlib.Core.Bool.{Bool, true, false, cond, not, _&&_, _||_, and-true, and-false, false≢true}
+use mathlib.Core.List.{List, []}
+use lib.Dec.{eqb, leb}
+use lib.Bits.{bitAnd, bitOr}
+use borrow.Author.Tests.{ne-eqb, leb-true, lt-leb}
+use Rattle.memory.specs.Image.{digit, bit}
+use Rattle.memory.proofs.Below.{all, below, and-right}
+use Rattle.rules.specs.Halves.{EC-EN, unblown}
+use Rattle.rules.specs.Lines.{IO, PGM, high, place}
+use Rattle.rules.specs.Zones.{between}
+use Rattle.rules.specs.Match.{arrived, endsMatch}
+use Rattle.rules.specs.Steps.{follows, clkRises, unlatched}
+use Rattle.volatile.specs.declared.Volatile.{Volatile}
+use Rattle.volatile.specs.Packed.{word, packed, unpacked, programmedHalf, arrivalFlags, openingFlags}
+use Rattle.volatile.proofs.Packing.{at-digits, masked-flags, mask-low, digit-low, change-of-flags}
+
+abbrev pub half : ℕ → ℕ → ℕ → Volatile
+half lines address flags = record { lines = lines; address = address; flags = flags }
+
+module _ (v : Volatile) (n : ℕ) where
+  pub follow-word : half n (v .address) (bitAnd (v .flags) 127) ≡ packed (follows n (unpacked v))
+  unfolding packed follows unpacked all digit word
+  follow-word = ap (half n (v .address)) (masked-flags (λ (x : ℕ). x) 127 word (omega arith) refl (v .flags))
+
+  pub reset-word : half n 0 (bitAnd (v .flags) 31) ≡ packed (arrived [] 0 0 (follows n (unpacked v)))
+  unfolding packed arrived endsMatch follows unpacked all digit word
+  reset-word =
+      ap (half n 0)
+      (masked-flags (λ (x : ℕ). x) 31 (λ sv p1 r1 programming latch e1 matched. word sv p1 r1 programming latch false false)
+      (omega arith) refl (v .flags))
+
+  pub unlatched-word : (t : Bool) → half n (v .address) (cond t (bitOr (bitAnd (v .flags) 39) 64) (bitAnd (v .flags) 39)) ≡ packed (unlatched n t (unpacked v))
+  unfolding packed unlatched unpacked all digit word
+  unlatched-word true =
+      ap (half n (v .address))
+      (masked-flags (λ (x : ℕ). bitOr x 64) 39 (λ sv p1 r1 programming latch e1 matched. word sv p1 r1 false false e1 true) (omega arith)
+      refl (v .flags))
+  unlatched-word false =
+      ap (half n (v .address))
+      (masked-flags (λ (x : ℕ). x) 39 (λ sv p1 r1 programming latch e1 matched. word sv p1 r1 false false e1 false) (omega arith) refl
+      (v .flags))
+
+  -- CLK's rise takes programming and the latch from the step.
+  pub rise-word : half n (v .address) (bitOr (bitAnd (v .flags) 103) (bitAnd n 24)) ≡ packed (clkRises n (unpacked v))
+  unfolding packed clkRises unpacked all digit word high place
+  rise-word =
+      ap (half n (v .address))
+      (ap (bitOr (bitAnd (v .flags) 103)) (mask-low 5 24 n (omega arith)) ∙
+      (ap (λ (x : ℕ). bitOr x (bitAnd (n % 32) 24)) (mask-low 7 103 (v .flags) (omega arith)) ∙
+      (change-of-flags (λ (x : ℕ). bitOr (bitAnd x 103) (bitAnd (n % 32) 24)) (taken (n % 32))
+      (below 32 (λ (z : ℕ). all 128 (λ (x : ℕ). eqb (bitOr (bitAnd x 103) (bitAnd z 24)) (at-digits (taken z) x))) refl (n % 32)
+      (mod-lt n (omega arith))) (v .flags) ∙
+      rw (digit-low 5 3 n (omega arith), digit-low 5 4 n (omega arith)))))
+    where
+      taken : ℕ → Bool → Bool → Bool → Bool → Bool → Bool → Bool → ℕ
+      taken z sv p1 r1 programming latch e1 matched = word sv p1 r1 (digit 3 z) (digit 4 z) e1 matched
+
+-- Arriving.
+module _ (m : List ℕ) (fuses : ℕ) (v : Volatile) where
+  pub arrive-at-0 : half (v .lines) 0 (bitAnd (v .flags) 31) ≡ packed (arrived m fuses 0 (unpacked v))
+  unfolding packed arrived endsMatch unpacked all digit word
+  arrive-at-0 =
+      ap (half (v .lines) 0)
+      (masked-flags (λ (x : ℕ). x) 31 (λ sv p1 r1 programming latch e1 matched. word sv p1 r1 programming latch false false)
+      (omega arith) refl (v .flags))
+
+  -- Where match ends, and no flag can come.
+  pub record EndsMatch (a : ℕ) : Type 0 where
+    pub ends : endsMatch a ≡ true
+    pub on : eqb a 0 ≡ false
+    pub no-p1 : eqb a 176 ≡ false
+    pub no-r1 : eqb a 177 ≡ false
+    pub no-e1 : eqb a 1232 ≡ false
+
+  pub arrive-ending : (a : ℕ) → EndsMatch a → half (v .lines) a (bitAnd (v .flags) 63) ≡ packed (arrived m fuses a (unpacked v))
+  unfolding packed arrived unpacked all digit word
+  arrive-ending a e =
+      rw (e .ends, e .on, e .no-p1, e .no-r1, e .no-e1)
+      (ap (half (v .lines) a)
+      (masked-flags (λ (x : ℕ). x) 63 (λ sv p1 r1 programming latch e1 matched. word sv p1 r1 programming latch e1 false)
+      (omega arith) refl (v .flags)))
+
+  -- With the flags that come.
+  sets :
+      (a f : ℕ) (g : Bool → Bool → Bool → Bool → Bool → Bool → Bool → ℕ) →
+      all 128 (λ (x : ℕ). eqb (bitOr (bitAnd x 127) f) (at-digits g x)) ≡ true →
+      half (v .lines) a (bitOr (bitAnd (v .flags) 127) f) ≡ half (v .lines) a (at-digits g (v .flags))
+  sets a f g t = ap (half (v .lines) a) (masked-flags (λ (x : ℕ). bitOr x f) 127 g (omega arith) t (v .flags))
+
+  pub arrive-elsewhere :
+      (a : ℕ) → (a ≡ 0 → ⊥) → (a ≡ 104 → ⊥) → (a ≡ 1360 → ⊥) →
+      half (v .lines) a (bitOr (bitAnd (v .flags) 127) (arrivalFlags m fuses a (digit 6 (v .flags)))) ≡
+      packed (arrived m fuses a (unpacked v))
+  unfolding packed arrived endsMatch unpacked arrivalFlags all digit word
+  arrive-elsewhere a h0 h104 h1360 = go (ℕ-discrete a 176) (ℕ-discrete a 177) (ℕ-discrete a 1232)
+    where
+      at-176 : (t : Bool) → half (v .lines) 176 (bitOr (bitAnd (v .flags) 127) (cond t 2 0)) ≡ half (v .lines) 176 (at-digits (λ sv p1. word sv (t || p1)) (v .flags))
+      at-176 true = sets 176 2 (λ sv p1. word sv true) refl
+      at-176 false = sets 176 0 word refl
+
+      at-177 : (t : Bool) → half (v .lines) 177 (bitOr (bitAnd (v .flags) 127) (cond t 4 0)) ≡ half (v .lines) 177 (at-digits (λ sv p1 r1. word sv p1 (t || r1)) (v .flags))
+      at-177 true = sets 177 4 (λ sv p1 r1. word sv p1 true) refl
+      at-177 false = sets 177 0 word refl
+
+      at-1232 :
+          (t : Bool) →
+          half (v .lines) 1232 (bitOr (bitAnd (v .flags) 127) (cond t 32 0)) ≡
+          half (v .lines) 1232 (at-digits (λ sv p1 r1 programming latch e1. word sv p1 r1 programming latch (t || e1)) (v .flags))
+      at-1232 true = sets 1232 32 (λ sv p1 r1 programming latch e1. word sv p1 r1 programming latch true) refl
+      at-1232 false = sets 1232 0 word refl
+
+      go :
+          Dec (a ≡ 176) → Dec (a ≡ 177) → Dec (a ≡ 1232) →
+          half (v .lines) a (bitOr (bitAnd (v .flags) 127) (arrivalFlags m fuses a (digit 6 (v .flags)))) ≡
+          packed (arrived m fuses a (unpacked v))
+      go (yes e) d f = rw e (at-176 (bit m 176))
+      go (no e) (yes d) f = rw d (at-177 (bit m 177))
+      go (no e) (no d) (yes f) = rw f (at-1232 (not (unblown EC-EN fuses) && digit 6 (v .flags)))
+      go (no e) (no d) (no f) =
+          rw (ne-eqb a 0 h0, ne-eqb a 104 h104, ne-eqb a 1360 h1360, ne-eqb a 176 e, ne-eqb a 177 d, ne-eqb a 1232 f)
+          (sets a 0 word refl)
+
+-- The two places where an operation sets a flag lie apart.
+apart : (a : ℕ) → between 96 103 a ≡ true → between 1232 1359 a ≡ false
+unfolding between
+apart a e =
+    let low : a ≤ 103 = leb-true a 103 (and-right (leb 96 a) (leb a 103) e) in
+    rw (lt-leb 1232 a (omega arith))
+
+-- Programming's end.
+module _ (v : Volatile) (n : ℕ) (l1 ec-en turned : Bool) where
+  ends :
+      (s e : Bool) → (s ≡ true → e ≡ false) →
+      half n (v .address) (bitOr (bitAnd (v .flags) 103) (cond s 1 (cond e 32 0))) ≡
+      half n (v .address) (at-digits (λ sv p1 r1 programming latch e1. word (s || sv) p1 r1 false false (e || e1)) (v .flags))
+  unfolding all digit word
+  ends true e h =
+      rw (h refl)
+      (ap (half n (v .address))
+      (masked-flags (λ (x : ℕ). bitOr x 1) 103 (λ sv p1 r1 programming latch e1. word true p1 r1 false false e1) (omega arith) refl
+      (v .flags)))
+  ends false true h =
+      ap (half n (v .address))
+      (masked-flags (λ (x : ℕ). bitOr x 32) 103 (λ sv p1 r1 programming latch e1. word sv p1 r1 false false true) (omega arith) refl
+      (v .flags))
+  ends false false h =
+      ap (half n (v .address))
+      (masked-flags (λ (x : ℕ). bitOr x 0) 103 (λ sv p1 r1 programming latch e1. word sv p1 r1 false false e1) (omega arith) refl
+      (v .flags))
+
+  -- The tests in the code's order and in the definition's.
+  in-scac : (p t u : Bool) → (p && (t && u)) ≡ (p && (u && t))
+  in-scac true true u = sym (and-true u)
+  in-scac true false u = sym (and-false u)
+  in-scac false t u = refl
+
+  in-ec : (q t u : Bool) → (q && (t && u && (not l1 && ec-en))) ≡ (q && (u && (not l1 && (ec-en && t))))
+  in-ec true true u = rw (and-true ec-en)
+  in-ec true false true = rw (and-false ec-en, and-false (not l1))
+  in-ec true false false = refl
+  in-ec false t u = refl
+
+  first-only : (p q r s : Bool) → (p ≡ true → q ≡ false) → (p && r) ≡ true → (q && s) ≡ false
+  first-only true q r s h e = rw (h refl)
+  first-only false q r s h e = absurd (false≢true e)
+
+  pub programmed-word :
+      half n (v .address) (bitOr (bitAnd (v .flags) 103) (openingFlags (v .address) l1 ec-en (turned && digit 6 (v .flags)))) ≡
+      packed (programmedHalf l1 ec-en turned n (unpacked v))
+  unfolding packed programmedHalf unpacked openingFlags
+  programmed-word =
+      let p = between 96 103 (v .address) in
+      let q = between 1232 1359 (v .address) in
+      let u = digit 6 (v .flags) in
+      rw (in-scac p turned u, in-ec q turned u)
+      (ends (p && (u && turned)) (q && (u && (not l1 && (ec-en && turned))))
+      (first-only p q (u && turned) (u && (not l1 && (ec-en && turned))) (apart (v .address))))

@@ -1,0 +1,4 @@
+pub mod Between
+pub mod Packing
+pub mod Edges
+pub mod Sums

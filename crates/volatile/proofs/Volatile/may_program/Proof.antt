@@ -1,0 +1,78 @@
+use Prim.Native.Nat.{_<_}
+use native.Mathlib.Omega.{arith}
+use borrow.Author.Tests.{not-true, not-false}
+use mathlib.Core.Path.{_≡_, sym, _∙_}
+use mathlib.Core.Bool.{true, false, Bool·beq}
+use Rattle.rules.specs.Halves.{unblown, fusePlace}
+use Rattle.rules.specs.Lines.{high, place}
+use Rattle.rules.specs.Rights.{held}
+use Rattle.volatile.specs.Packed.{unpacked}
+use Rattle.volatile.proofs.Sums.{granted-mask, may-program-by}
+use borrow.Author.Needs.{needs}
+use Rattle.volatile.proofs.Volatile.may_program.Statement.{statement}
+use Rattle.volatile.proofs.Volatile.may_program.Tie as tie
+
+zone-of-requires : tie.Need-zone-of-requires
+zone-of-requires c κs = search needs
+
+is-set-requires : tie.Need-is-set-requires
+is-set-requires c κs = search needs
+
+is-fuse-requires : tie.Need-is-fuse-requires
+is-fuse-requires c κs = search needs
+
+returns : tie.Need-returns
+unfolding high place unpacked
+returns c =
+    let args = c .before .before .before .before .args in
+    let other : Bool·beq (c .before .before .is-set .result) (c .before .is-fuse .result) ≡ false =
+    not-true (Bool·beq (c .before .before .is-set .result) (c .before .is-fuse .result)) (c .if1 .taken) in
+    sym
+    (may-program-by (args .fuses) (unpacked (args .self)) false
+    (rw (c .before .before .is-set .ensures, c .before .is-fuse .ensures, c .before .before .before .zone-of .ensures) at other))
+
+is-set-requires-2 : tie.Need-is-set-requires-2
+is-set-requires-2 c κs = search needs
+
+is-set-requires-3 : tie.Need-is-set-requires-3
+is-set-requires-3 c κs = search needs
+
+level1-requires : tie.Need-level1-requires
+level1-requires c κs = search needs
+
+asks-of-requires : tie.Need-asks-of-requires
+asks-of-requires c κs = search needs
+
+lacking-requires : tie.Need-lacking-requires
+lacking-requires c κs = search needs
+
+returns-2 : tie.Need-returns-2
+unfolding high place unpacked unblown fusePlace
+returns-2 c =
+    let args = c .before .before .before .before .before .before .before .before .before .args in
+    let h = held (args .fuses) (unpacked (args .self)) in
+    let small : c .before .asks-of .result < 256 = omega (arith, c .before .asks-of .ok) in
+    let same : Bool·beq (c .before .before .before .before .before .before .before .is-set .result) (c .before .before .before .before .before .before .is-fuse .result) ≡ true =
+    not-false (Bool·beq (c .before .before .before .before .before .before .before .is-set .result) (c .before .before .before .before .before .before .is-fuse .result)) (c .before .before .before .before .before .if1 .left) in
+    rw (
+      may-program-by (args .fuses) (unpacked (args .self)) true
+          (rw (c .before .before .before .before .before .before .before .is-set .ensures, c .before .before .before .before .before .before .is-fuse .ensures, c .before .before .before .before .before .before .before .before .zone-of .ensures) at same),
+      c .lacking .ensures,
+    )
+    (granted-mask (c .before .asks-of .result) small h ∙
+    rw (c .before .asks-of .ensures, c .before .before .level1 .ensures, c .before .before .before .is-set3 .ensures, c .before .before .before .before .is-set2 .ensures, c .before .before .before .before .before .before .before .before .zone-of .ensures))
+
+pub may-program-spec : {M : Type 1} → statement M
+may-program-spec =
+    tie.close
+    (tie.spec
+    zone-of-requires
+    is-set-requires
+    is-fuse-requires
+    returns
+    is-set-requires-2
+    is-set-requires-3
+    level1-requires
+    asks-of-requires
+    lacking-requires
+    returns-2)

@@ -1,0 +1,104 @@
+-- The volatile half as the code holds it: three words, with the flags and the latch as the digits of one.
+use Prim.Native.Nat.{ℕ, _+_, _*_}
+use mathlib.Core.Bool.{Bool, true, false, cond, not, _&&_, _||_}
+use mathlib.Core.List.{List}
+use lib.Dec.{eqb, ltb}
+use Rattle.memory.specs.Image.{digit, bit}
+use Rattle.rules.specs.declared.Operation.{Operation}
+use Rattle.rules.specs.Halves.{Card, EC-EN, unblown}
+use Rattle.rules.specs.Lines.{RST, high}
+use Rattle.rules.specs.Halves as Halves
+use Rattle.rules.specs.Rights.{Held, held}
+use Rattle.rules.specs.Zones.{between, zone}
+use Rattle.rules.specs.Programming.{mayProgram, operation}
+use Rattle.rules.specs.Match.{compared}
+use Rattle.rules.specs.Refusals.{madeUp}
+use Rattle.volatile.specs.declared.Volatile.{Volatile}
+
+-- A digit of a number: 1 for true.
+abbrev pub one : Bool → ℕ
+one true = 1
+one false = 0
+
+-- The word of the flags: SV 1, P1 2, R1 4, programming 8, latch 16, E1 32, match 64.
+unfoldable pub word : Bool → Bool → Bool → Bool → Bool → Bool → Bool → ℕ
+word sv p1 r1 programming latch e1 matched =
+    one sv + 2 * (one p1 + 2 * (one r1 + 2 * (one programming + 2 * (one latch + 2 * (one e1 + 2 * one matched)))))
+
+-- What a packed half stands for.
+unfoldable pub unpacked : Volatile → Halves.Volatile
+unpacked v =
+    record {
+      lines = v .lines;
+      address = v .address;
+      sv = digit 0 (v .flags);
+      p1 = digit 1 (v .flags);
+      r1 = digit 2 (v .flags);
+      e1 = digit 5 (v .flags);
+      matched = digit 6 (v .flags);
+      latch = digit 4 (v .flags);
+      programming = digit 3 (v .flags);
+    }
+
+unfoldable pub packed : Halves.Volatile → Volatile
+unfolding word
+packed v =
+    record {
+      lines = v .lines;
+      address = v .address;
+      flags = word (v .sv) (v .p1) (v .r1) (v .programming) (v .latch) (v .e1) (v .matched);
+    }
+
+-- The card that an image, a fuse byte and a packed half make.
+abbrev pub cardOf : List ℕ → ℕ → Volatile → Card
+cardOf m fuses v = record { memory = m; fuses = fuses; volatile = unpacked v }
+
+-- 9 of a packed half: a flag that no card has is made up too.
+unfoldable pub madeUpWord : Volatile → Bool
+unfolding unpacked
+madeUpWord v = ltb 127 (v .flags) || madeUp (unpacked v)
+
+-- The things that a right may ask for and that are not there, as a mask.
+unfoldable pub lackingOf : Held → ℕ
+lackingOf h =
+    1 + 2 * (one (not (h .sv)) + 2 * (one (not (h .p1)) + 2 * (one (not (h .e1)) + 2 * (one (not (h .mf)) + 2 * (one (not (h .iss)) +
+    2 * (one (not (h .fus)) + 2 * one (not (h .sv || h .r1))))))))
+
+-- The volatile half after an operation that turned a 1 into 0, or did not.
+unfoldable pub programmedHalf : Bool → Bool → Bool → ℕ → Halves.Volatile → Halves.Volatile
+unfolding between
+programmedHalf l1 ec-en turned n v =
+    record {
+      lines = n;
+      address = v .address;
+      sv = between 96 103 (v .address) && (v .matched && turned) || v .sv;
+      p1 = v .p1;
+      r1 = v .r1;
+      e1 = between 1232 1359 (v .address) && (v .matched && (not l1 && (ec-en && turned))) || v .e1;
+      matched = v .matched;
+      latch = false;
+      programming = false;
+    }
+
+-- The match that the compare at the present address gives, and the operation that takes effect there.
+unfoldable pub comparedHere : List ℕ → Bool → Halves.Volatile → Bool
+comparedHere m l1 v = compared l1 (v .sv) (v .latch) (bit m (v .address)) (v .address) (v .matched)
+
+unfoldable pub mayProgramNow : ℕ → Halves.Volatile → Bool
+mayProgramNow fuses v =
+    mayProgram (held fuses v) (unblown EC-EN fuses) (high RST (v .lines)) (v .latch) (v .address) (zone (v .address))
+
+unfoldable pub operationNow : ℕ → Halves.Volatile → Operation
+operationNow fuses v = operation (held fuses v) (unblown EC-EN fuses) (high RST (v .lines)) (v .latch) (v .address)
+
+-- The word of the flags that an arrival sets.
+unfoldable pub arrivalFlags : List ℕ → ℕ → ℕ → Bool → ℕ
+arrivalFlags m fuses a matched =
+    cond (eqb a 176) (cond (bit m 176) 2 0)
+    (cond (eqb a 177) (cond (bit m 177) 4 0) (cond (eqb a 1232 && (not (unblown EC-EN fuses) && matched)) 32 0))
+
+-- The word of the flag that an operation sets.
+unfoldable pub openingFlags : ℕ → Bool → Bool → Bool → ℕ
+unfolding between
+openingFlags a l1 ec-en keyed =
+    cond (between 96 103 a && keyed) 1 (cond (between 1232 1359 a && (keyed && (not l1 && ec-en))) 32 0)

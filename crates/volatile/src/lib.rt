@@ -1,0 +1,331 @@
+// The volatile half, and what each edge makes of it: it goes in by value and comes back.
+use memory::is_set;
+use rules::Operation;
+ghost use mathlib.Core.Path.{_≡_};
+ghost use mathlib.Core.Bool.{cond};
+ghost use mathlib.Core.List.{[]};
+ghost use Prim.Native.Nat.{_≤_};
+ghost use Rattle.rules.specs.Halves.{fresh, off};
+ghost use Rattle.rules.specs.Zones.{zone};
+ghost use Rattle.rules.specs.Rights.{held, level1, mayRead};
+ghost use Rattle.rules.specs.Match.{arrived};
+ghost use Rattle.rules.specs.Steps.{follows, clkRises, unlatched, driven, pin};
+ghost use Rattle.volatile.specs.Packed.{packed, unpacked, cardOf, madeUpWord, lackingOf, programmedHalf, openingFlags, arrivalFlags, comparedHere, mayProgramNow, operationNow};
+
+// Places of the lines in a step.
+pub const VCC: u32 = 0;
+
+pub const RST: u32 = 1;
+
+pub const CLK: u32 = 2;
+
+pub const PGM: u32 = 3;
+
+pub const FUS: u32 = 5;
+
+// Places of the flags. Programming and the latch stand where PGM and I/O do in a step.
+pub const SV: u32 = 0;
+
+pub const P1: u32 = 1;
+
+pub const R1: u32 = 2;
+
+pub const PROGRAMMING: u32 = 3;
+
+pub const LATCH: u32 = 4;
+
+pub const E1: u32 = 5;
+
+pub const MATCH: u32 = 6;
+
+// Places of the fuses in their byte.
+pub const MF: u32 = 0;
+
+pub const EC_EN: u32 = 1;
+
+pub const ISS: u32 = 2;
+
+// The volatile half: line levels, address, and the flags as one word. Three wide fields stay in registers.
+#[repr(C)]
+pub struct Volatile {
+    pub lines: u32,
+    pub address: u32,
+    pub flags: u32,
+}
+
+fn unless(there: bool, mask: u8) -> u8
+    ensures { λ r. ⌜ (r ≡ cond there 0 mask) × (r ≤ mask) ⌝ }
+{
+    if there { 0 } else { mask }
+}
+
+// The flags that come with the arrival at 176, 177 or 1232.
+fn arrival(image: &[u8], fuses: u8, a: u32, matched: bool) -> u32
+    ensures { λ r. ⌜ r ≡ arrivalFlags (now (image .entry)) fuses a matched ⌝ }
+{
+    if a == 176 {
+        if memory::read_bit(image, 176) {
+            return 2;
+        }
+        return 0;
+    }
+    if a == 177 {
+        if memory::read_bit(image, 177) {
+            return 4;
+        }
+        return 0;
+    }
+    if a == 1232 {
+        if !is_set(fuses as u32, EC_EN) & matched {
+            return 32;
+        }
+    }
+    0
+}
+
+// The flag that comes with a write that turned a 1 into 0 while match held: SV in SCAC, E1 in EC at level 2 with EC_EN unblown.
+fn opening(a: u32, l1: bool, ec_en: bool, keyed: bool) -> u32
+    ensures { λ r. ⌜ r ≡ openingFlags a l1 «ec_en» keyed ⌝ }
+{
+    if !keyed {
+        return 0;
+    }
+    if a < 96 {
+        return 0;
+    }
+    if a <= 103 {
+        return 1;
+    }
+    if a < 1232 {
+        return 0;
+    }
+    if 1359 < a {
+        return 0;
+    }
+    if !l1 & ec_en {
+        return 32;
+    }
+    0
+}
+
+impl Volatile {
+    // A fresh card has all lines low.
+    pub fn fresh() -> Self
+        ensures { λ r. ⌜ r ≡ packed fresh ⌝ }
+    {
+        Self {
+            lines: 0,
+            address: 0,
+            flags: 0,
+        }
+    }
+
+    // The lines only follow.
+    pub fn follows(mut self, n: u32) -> Self
+        ensures { λ r. ⌜ r ≡ packed (follows n (unpacked self)) ⌝ }
+    {
+        self.lines = n;
+        self.flags = self.flags & 127;
+        self
+    }
+
+    // VCC falls.
+    pub fn power_falls(mut self, n: u32) -> Self
+        ensures { λ r. ⌜ r ≡ packed (off n) ⌝ }
+    {
+        self.lines = n;
+        self.address = 0;
+        self.flags = 0;
+        self
+    }
+
+    // CLK rises: I/O is latched, and with PGM high programming starts.
+    pub fn clock_rises(mut self, n: u32) -> Self
+        ensures { λ r. ⌜ r ≡ packed (clkRises n (unpacked self)) ⌝ }
+    {
+        self.lines = n;
+        self.flags = (self.flags & 103) | (n & 24);
+        self
+    }
+
+    // RST falls: address 0, where E1 and match end.
+    pub fn reset_falls(mut self, n: u32) -> Self
+        ensures { λ r. ⌜ r ≡ packed (arrived [] 0 0 (follows n (unpacked self))) ⌝ }
+    {
+        self.lines = n;
+        self.address = 0;
+        self.flags = self.flags & 31;
+        self
+    }
+
+    // CLK falls without programming: the latch is cleared, and match is what the compare gives.
+    pub fn unlatched(mut self, n: u32, matched: bool) -> Self
+        ensures { λ r. ⌜ r ≡ packed (unlatched n matched (unpacked self)) ⌝ }
+    {
+        self.lines = n;
+        if matched {
+            self.flags = (self.flags & 39) | 64;
+        } else {
+            self.flags = self.flags & 39;
+        }
+        self
+    }
+
+    // What arriving at an address does.
+    pub fn arrives(mut self, image: &[u8], fuses: u8, a: u32) -> Self
+        ensures { λ r. ⌜ r ≡ packed (arrived (now (image .entry)) fuses a (unpacked self)) ⌝ }
+    {
+        let flags = self.flags;
+        self.address = a;
+        if a == 0 {
+            self.flags = flags & 31;
+            return self;
+        }
+        if a == 104 {
+            self.flags = flags & 63;
+            return self;
+        }
+        if a == 1360 {
+            self.flags = flags & 63;
+            return self;
+        }
+        self.flags = (flags & 127) | arrival(image, fuses, a, is_set(flags, MATCH));
+        self
+    }
+
+    // CLK falls in programming, whose operation turned a 1 into 0 or did not: SV comes in SCAC, E1 in EC.
+    pub fn programmed(mut self, n: u32, l1: bool, ec_en: bool, turned: bool) -> Self
+        ensures { λ r. ⌜ r ≡ packed (programmedHalf l1 «ec_en» turned n (unpacked self)) ⌝ }
+    {
+        let flags = self.flags;
+        let keyed = turned & is_set(flags, MATCH);
+        self.lines = n;
+        self.flags = (flags & 103) | opening(self.address, l1, ec_en, keyed);
+        self
+    }
+
+    // Level 1 is FUS high and ISS unblown.
+    pub fn level1(self, fuses: u8) -> bool
+        ensures { λ r. ⌜ r ≡ level1 (held fuses (unpacked self)) ⌝ }
+    {
+        is_set(self.lines, FUS) & is_set(fuses as u32, ISS)
+    }
+
+    // The things that a right may ask for and that are not there.
+    pub fn lacking(self, fuses: u8) -> u8
+        ensures { λ r. ⌜ r ≡ lackingOf (held fuses (unpacked self)) ⌝ }
+    {
+        let sv = is_set(self.flags, SV);
+        let flags = 1
+            + unless(sv, 2)
+            + unless(is_set(self.flags, P1), 4)
+            + unless(is_set(self.flags, E1), 8);
+        let f = fuses as u32;
+        let lasting = unless(is_set(f, MF), 16) + unless(is_set(f, ISS), 32);
+        let open = sv | is_set(self.flags, R1);
+        flags + lasting + unless(is_set(self.lines, FUS), 64) + unless(open, 128)
+    }
+
+    pub fn may_read(self, fuses: u8) -> bool
+        ensures { λ r. ⌜ r ≡ mayRead (held fuses (unpacked self)) (zone (self .address)) ⌝ }
+    {
+        let z = rights::zone_of(self.address);
+        let right = rights::right_of(self.level1(fuses), z);
+        let asked = right.read;
+        asked & self.lacking(fuses) == 0
+    }
+
+    // VCC is on, RST and PGM are low, no programming is under way, and the address may be read.
+    pub fn driven(self, fuses: u8) -> bool
+        ensures { λ r. ⌜ r ≡ driven (cardOf [] fuses self) ⌝ }
+    {
+        if self.lines & 11 != 1 {
+            return false;
+        }
+        if is_set(self.flags, PROGRAMMING) {
+            return false;
+        }
+        self.may_read(fuses)
+    }
+
+    // What the pin answers.
+    pub fn pin(self, image: &[u8], fuses: u8) -> u8
+        ensures { λ r. ⌜ r ≡ pin (cardOf (now (image .entry)) fuses self) ⌝ }
+    {
+        if self.driven(fuses) {
+            if !memory::read_bit(image, self.address as usize) {
+                return 0;
+            }
+        }
+        1
+    }
+
+    // The match that the compare at the present address gives.
+    pub fn compared(self, image: &[u8], l1: bool) -> bool
+        ensures { λ r. ⌜ r ≡ comparedHere (now (image .entry)) l1 (unpacked self) ⌝ }
+    {
+        let a = self.address;
+        let matched = is_set(self.flags, MATCH);
+        if a < 80 {
+            return matched;
+        }
+        if a <= 95 {
+            let same = is_set(self.flags, LATCH) == memory::read_bit(image, a as usize);
+            return !is_set(self.flags, SV) & (same & ((a == 80) | matched));
+        }
+        if a < 1200 {
+            return matched;
+        }
+        if 1231 < a {
+            return matched;
+        }
+        let same = is_set(self.flags, LATCH) == memory::read_bit(image, a as usize);
+        !l1 & (same & ((a == 1200) | matched))
+    }
+
+    // Whether the operation is carried out, under the flags and lines of the moment.
+    pub fn may_program(self, fuses: u8) -> bool
+        ensures { λ r. ⌜ r ≡ mayProgramNow fuses (unpacked self) ⌝ }
+    {
+        let z = rights::zone_of(self.address);
+        if is_set(self.lines, RST) != rights::is_fuse(z) {
+            return false;
+        }
+        let latch = is_set(self.flags, LATCH);
+        let ec_en = is_set(fuses as u32, EC_EN);
+        let asked = rights::asks_of(self.level1(fuses), ec_en, latch, self.address, z);
+        asked & self.lacking(fuses) == 0
+    }
+
+    // The operation that takes effect.
+    pub fn operation(self, fuses: u8) -> Operation
+        ensures { λ r. ⌜ r ≡ operationNow fuses (unpacked self) ⌝ }
+    {
+        if self.may_program(fuses) {
+            let latch = is_set(self.flags, LATCH);
+            return rights::effect_of(self.level1(fuses), latch, rights::zone_of(self.address));
+        }
+        Operation::Nothing
+    }
+
+    // 9: a made-up state.
+    pub fn made_up(self) -> bool
+        ensures { λ r. ⌜ r ≡ madeUpWord self ⌝ }
+    {
+        let a = self.address;
+        let flags = self.flags;
+        let vcc = is_set(self.lines, VCC);
+        let clk = is_set(self.lines, CLK);
+        let programming = is_set(flags, PROGRAMMING);
+        let off = !vcc & ((a != 0) | (flags != 0));
+        let latched = is_set(flags, LATCH) & !clk;
+        let started = programming & !clk;
+        let idle = vcc & (clk & (is_set(self.lines, PGM) & !programming));
+        let code = (81 <= a) & (a <= 103);
+        let key = (1201 <= a) & (a <= 1359);
+        let matched = is_set(flags, MATCH) & !(code | key);
+        let keyed = is_set(flags, E1) & !((1232 <= a) & (a <= 1519));
+        let told = latched | (started | (idle | (matched | keyed)));
+        (127 < flags) | ((63 < self.lines) | ((1519 < a) | (off | told)))
+    }
+}
