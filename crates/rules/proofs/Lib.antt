@@ -14,3 +14,5 @@ pub mod AlikeCards
 pub mod Hidden
 pub mod Examples
 pub mod CheckedSteps
+pub mod Cases
+pub mod DataSheet

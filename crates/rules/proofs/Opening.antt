@@ -15,7 +15,7 @@ use Rattle.rules.specs.Lines.{CLK, place, high}
 use Rattle.rules.specs.Zones.{between}
 use Rattle.rules.specs.Refusals.{madeUp, stateRefusal, runRefusal}
 use Rattle.rules.specs.Card.{checkedRun}
-use Rattle.rules.specs.Maker.{idle, reset, walk, digits, showBits, program, zerosBefore, open-card, made, openRefusal}
+use Rattle.rules.specs.Maker.{idle, reset, walk, digits, showBits, program, zerosBefore, open-card, actRefusal, openRefusal}
 use Rattle.rules.specs.Demands.{Idle, attempts, firstTry, shown, Right-code-opens, Wrong-code-spends-one-try}
 use Rattle.rules.proofs.CodeMatch.{shownMatch, right-matches, wrong-fails}
 use Rattle.rules.proofs.MakerLaws.{length-open}
@@ -134,8 +134,8 @@ wrong-code-spends-one-try fus code c i left wrong =
 -- With room for the steps and their answers, the maker gives them and none of 10, 14, 9, 18 and 19 comes: the theorems above are about
 -- what maker and run answer.
 module _ (fus : Bool) (code : ℕ) (c : Card) (left : firstTry c < 104) (room : ℕ) (enough : 223 + 2 * zerosBefore 8 (attempts c) ≤ room) where
-  pub makes-opening : made (openRefusal (attempts c)) (open-card fus code (attempts c)) room ≡ 0
-  unfolding made openRefusal
+  pub makes-opening : actRefusal (openRefusal (attempts c)) (open-card fus code (attempts c)) room ≡ 0
+  unfolding actRefusal openRefusal
   makes-opening =
       rw (
         ne-eqb (zerosBefore 8 (attempts c)) 8 (omega arith),

@@ -11,3 +11,6 @@ pub mod Maker
 pub mod File
 pub mod Computing
 pub mod Demands
+pub mod CaseForms
+pub mod Cases
+pub mod DataSheet

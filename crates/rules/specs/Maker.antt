@@ -81,10 +81,10 @@ unfolding reset walk show program zerosBefore
 open-card fus code attempts =
     reset fus ++ (walk fus 80 ++ (show fus 16 code ++ (walk fus (zerosBefore 8 attempts) ++ (program fus false ++ program fus true))))
 
--- What an act comes to in a buffer: a refusal's number, or the steps. "Refused in order: 21 a walk over 1519; 23 no one in the byte; 22
--- buffer too small. Nothing is then written, count 0; else bytes after the count stay."
-unfoldable pub made : ℕ → List ℕ → ℕ → ℕ
-made refused steps room = cond (eqb refused 0) (cond (ltb room (length steps)) 22 0) refused
+-- "Refused in order: 21 a walk over 1519; 23 no one in the byte; 22 buffer too small.": the number by which an act is refused, 0 if none,
+-- where `refused` is its own refusal, by 21 or 23.
+unfoldable pub actRefusal : ℕ → List ℕ → ℕ → ℕ
+actRefusal refused steps room = cond (eqb refused 0) (cond (ltb room (length steps)) 22 0) refused
 
 unfoldable pub walkRefusal : ℕ → ℕ
 walkRefusal n = cond (ltb last n) 21 0

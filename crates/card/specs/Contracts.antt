@@ -1,0 +1,77 @@
+-- What each call of the card answers and leaves, for every input.
+use Prim.Native.Nat.{ℕ}
+use mathlib.Core.Bool.{Bool, cond, not}
+use mathlib.Core.List.{List}
+use lib.Dec.{eqb, ltb}
+use lib.ListN.{length}
+use Rattle.memory.specs.Image.{bytes}
+use Rattle.rules.specs.declared.Answer.{Answer}
+use Rattle.rules.specs.declared.Answer.the-variants.{Refused}
+use Rattle.rules.specs.Halves.{Card}
+use Rattle.rules.specs.Refusals.{longest}
+use Rattle.rules.specs.Card as Rules
+use Rattle.volatile.specs.declared.Volatile.{Volatile}
+use Rattle.card.specs.declared.Stepped.{Stepped}
+use Rattle.card.specs.declared.Ran.{Ran}
+use Rattle.volatile.specs.Packed.{packed, cardOf, madeUpWord}
+
+-- 10, 14, 9.
+unfoldable pub stateNumber : List ℕ → ℕ → Volatile → ℕ
+unfolding madeUpWord
+stateNumber m fuses v = cond (not (eqb (length m) bytes)) 10 (cond (ltb 7 fuses) 14 (cond (madeUpWord v) 9 0))
+
+-- A step's answer, with the halves that are handed back.
+unfoldable pub stepAnswer : List ℕ → ℕ → Volatile → ℕ → Stepped
+unfolding packed stateNumber
+stepAnswer m fuses v n =
+    let c = cardOf m fuses v in
+    let k = stateNumber m fuses v in
+    cond (eqb k 0)
+    (record {
+      fuses = Rules.stepped c n .fuses;
+      volatile = packed (Rules.stepped c n .volatile);
+      answer = Rules.answered c n;
+    })
+    (record { fuses = fuses; volatile = v; answer = Refused k })
+
+-- The image after a step.
+unfoldable pub stepMemory : List ℕ → ℕ → Volatile → ℕ → List ℕ
+unfolding stateNumber
+stepMemory m fuses v n = cond (eqb (stateNumber m fuses v) 0) (Rules.stepped (cardOf m fuses v) n .memory) m
+
+-- 10, 14, 9, 18, 19.
+unfoldable pub runNumber : List ℕ → ℕ → Volatile → ℕ → ℕ → ℕ
+unfolding stateNumber
+runNumber m fuses v steps room =
+    let k = stateNumber m fuses v in
+    cond (eqb k 0) (cond (ltb longest steps) 18 (cond (ltb room steps) 19 0)) k
+
+-- What a run from a packed half comes to, in the card's own terms.
+unfoldable pub ranOn : List ℕ → ℕ → Volatile → List ℕ → Rules.Ran
+ranOn m fuses v steps = Rules.run (cardOf m fuses v) steps
+
+unfoldable pub runAnswer : List ℕ → ℕ → Volatile → List ℕ → ℕ → Ran
+unfolding packed runNumber ranOn
+runAnswer m fuses v steps room =
+    let k = runNumber m fuses v (length steps) room in
+    let r = ranOn m fuses v steps in
+    cond (eqb k 0)
+    (record {
+      fuses = r .card .fuses;
+      volatile = packed (r .card .volatile);
+      done = length (r .answers);
+      refusal = r .refused;
+    })
+    (record { fuses = fuses; volatile = v; done = 0; refusal = k })
+
+unfoldable pub runMemory : List ℕ → ℕ → Volatile → List ℕ → ℕ → List ℕ
+unfolding runNumber ranOn
+runMemory m fuses v steps room = cond (eqb (runNumber m fuses v (length steps) room) 0) (ranOn m fuses v steps .card .memory) m
+
+-- The lent answers after a run.
+unfoldable pub runAnswers : List ℕ → ℕ → Volatile → List ℕ → List ℕ → List ℕ
+unfolding runNumber ranOn
+runAnswers m fuses v steps answers =
+    cond (eqb (runNumber m fuses v (length steps) (length answers)) 0)
+    (Rules.answersIn (ranOn m fuses v steps .answers) answers)
+    answers

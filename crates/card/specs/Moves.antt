@@ -1,0 +1,47 @@
+-- One step inside the card: what the private functions of the loop take for granted and what they hand on.
+use Prim.Native.Nat.{ℕ, _≤_}
+use mathlib.Core.Path.{_≡_}
+use mathlib.Core.Bool.{false, cond}
+use mathlib.Core.List.{List}
+use lib.Dec.{eqb}
+use lib.ListN.{length}
+use Rattle.memory.specs.Image.{bytes}
+use Rattle.rules.specs.declared.Operation.{Operation}
+use Rattle.rules.specs.Halves.{Card}
+use Rattle.rules.specs.Programming.{fusesAfter, turns}
+use Rattle.rules.specs.Refusals.{refusal}
+use Rattle.rules.specs.Steps.{programmed, next, pin}
+use Rattle.volatile.specs.declared.Volatile.{Volatile}
+use Rattle.volatile.specs.Packed.{packed, unpacked, cardOf, madeUpWord, operationNow}
+use Rattle.card.specs.declared.Moved.{Moved}
+use Rattle.card.specs.declared.Done.{Done}
+
+-- A card that 10, 14 and 9 let pass, with its pin at hand.
+pub record Ready (m : List ℕ) (fuses : ℕ) (v : Volatile) (p : ℕ) : Type 0 where
+  pub sized : length m ≡ bytes
+  pub fused : fuses ≤ 7
+  pub sound : madeUpWord v ≡ false
+  pub pinned : p ≡ pin (cardOf m fuses v)
+
+abbrev pub moved : Volatile → ℕ → ℕ → ℕ → Moved
+moved v fuses p k = record { volatile = v; fuses = fuses; pin = p; refusal = k }
+
+-- An accepted step has come to this card.
+abbrev pub movedTo : Card → Moved
+movedTo c = moved (packed (c .volatile)) (c .fuses) (pin c) 0
+
+-- The card after CLK's fall in programming.
+unfoldable pub programmedCard : List ℕ → ℕ → Volatile → ℕ → Card
+programmedCard m fuses v n = programmed (operationNow fuses (unpacked v)) n (cardOf m fuses v)
+
+-- The halves, the pin and 0 after an accepted step; all as it came and the number after a refused one.
+unfoldable pub movedBy : List ℕ → ℕ → Volatile → ℕ → ℕ → Moved
+movedBy m fuses v p n =
+    let c = cardOf m fuses v in
+    let k = refusal (unpacked v) n in
+    cond (eqb k 0)
+    (movedTo (next c n)) (moved v fuses p k)
+
+-- What an operation leaves beside the image.
+unfoldable pub doneBy : Operation → List ℕ → ℕ → ℕ → Done
+doneBy op m fuses a = record { fuses = fusesAfter op fuses; turned = turns op m a }

@@ -1,0 +1,108 @@
+-- The chain of refusals, taken apart: what holds where it comes to 0, and the first checks without the later ones.
+use Prim.Native.Nat.{ℕ, suc, _+_, _≤_}
+use mathlib.Core.Path.{_≡_, refl}
+use mathlib.Core.Bool.{Bool, true, false, cond, not}
+use mathlib.Core.List.{List}
+use borrow.Author.Tests.{ltb-false, eqb-true, not-false}
+use native.Mathlib.Nat.{not-suc-le-zero, le-of-eq}
+use lib.Dec.{eqb, ltb}
+use lib.ListN.{length}
+use Rattle.memory.specs.Image.{bytes}
+use Rattle.rules.specs.Refusals.{longest}
+use Rattle.rules.specs.File.{count, fuseSection, stepCount, partsRefusal, cardRefusal, sessionRefusal}
+
+chain :
+    (a b c d e : Bool) (more : ℕ)
+    → cond a 10 (cond b 11 (cond c 12 (cond d 13 (cond e 14 more))))
+    ≡ cond (eqb (cond a 10 (cond b 11 (cond c 12 (cond d 13 (cond e 14 0))))) 0) more (cond a 10 (cond b 11 (cond c 12 (cond d 13 (cond e 14 0)))))
+chain true b c d e more = refl
+chain false true c d e more = refl
+chain false false true d e more = refl
+chain false false false true e more = refl
+chain false false false false true more = refl
+chain false false false false false more = refl
+
+-- 10 to 14 come first; the later checks count only where these give 0.
+parts-first :
+    (file : List ℕ) (room more : ℕ)
+    → partsRefusal file room more ≡ cond (eqb (partsRefusal file room 0) 0) more (partsRefusal file room 0)
+unfolding partsRefusal
+parts-first file room more =
+    chain
+    (not (eqb room bytes))
+    (ltb (length file) 179)
+    (not (eqb (count file 0) bytes))
+    (not (eqb (count file 176) 1))
+    (ltb 7 (fuseSection file))
+    more
+
+pub card-first :
+    (file : List ℕ) (room : ℕ)
+    → cardRefusal file room ≡ cond (eqb (partsRefusal file room 0) 0) (cond (eqb (length file) 179) 0 17) (partsRefusal file room 0)
+unfolding cardRefusal
+card-first file room = parts-first file room (cond (eqb (length file) 179) 0 17)
+
+pub session-first :
+    (file : List ℕ) (room : ℕ)
+    → sessionRefusal file room
+    ≡ cond (eqb (partsRefusal file room 0) 0)
+    (cond (ltb (length file) 181) 15
+    (cond (ltb longest (count file 179)) 16 (cond (eqb (length file) (181 + count file 179)) 0 17)))
+    (partsRefusal file room 0)
+unfolding sessionRefusal
+session-first file room =
+    parts-first file room
+    (cond (ltb (length file) 181) 15
+    (cond (ltb longest (count file 179)) 16 (cond (eqb (length file) (181 + count file 179)) 0 17)))
+
+-- What holds where nothing is refused.
+pub record Whole (file : List ℕ) (room : ℕ) : Type 0 where
+  pub sized : room ≡ bytes
+  pub long : 179 ≤ length file
+  pub fused : fuseSection file ≤ 7
+
+pub record WholeSession (file : List ℕ) (room : ℕ) : Type 0 where
+  pub parts : Whole file room
+  pub few : stepCount file ≤ longest
+  pub counted : length file ≡ 181 + stepCount file
+
+-- A chain that comes to 0 passed its first test, and its last one.
+peel : (t : Bool) (k r : ℕ) → cond t (suc k) r ≡ 0 → (t ≡ false) × (r ≡ 0)
+peel true k r e = absurd (not-suc-le-zero (le-of-eq e))
+peel false k r e = (refl, e)
+
+ends : (t : Bool) (k : ℕ) → cond t 0 (suc k) ≡ 0 → t ≡ true
+ends true k e = refl
+ends false k e = absurd (not-suc-le-zero (le-of-eq e))
+
+whole : (file : List ℕ) (room more : ℕ) → partsRefusal file room more ≡ 0 → Whole file room × (more ≡ 0)
+unfolding partsRefusal
+whole file room more e =
+    let p10 = peel (not (eqb room bytes)) 9 _ e in
+    let p11 = peel (ltb (length file) 179) 10 _ (p10 .1) in
+    let p12 = peel (not (eqb (count file 0) bytes)) 11 _ (p11 .1) in
+    let p13 = peel (not (eqb (count file 176) 1)) 12 _ (p12 .1) in
+    let p14 = peel (ltb 7 (fuseSection file)) 13 more (p13 .1) in (
+      record {
+        sized = eqb-true room bytes (not-false _ (p10 .0));
+        long = ltb-false (length file) 179 (p11 .0);
+        fused = ltb-false 7 (fuseSection file) (p14 .0);
+      },
+      p14 .1,
+    )
+
+pub whole-card : (file : List ℕ) (room : ℕ) → cardRefusal file room ≡ 0 → Whole file room
+unfolding cardRefusal
+whole-card file room e = whole file room _ e .0
+
+pub whole-session : (file : List ℕ) (room : ℕ) → sessionRefusal file room ≡ 0 → WholeSession file room
+unfolding sessionRefusal
+whole-session file room e =
+    let w = whole file room _ e in
+    let p15 = peel (ltb (length file) 181) 14 _ (w .1) in
+    let p16 = peel (ltb longest (stepCount file)) 15 _ (p15 .1) in
+    record {
+      parts = w .0;
+      few = ltb-false longest (stepCount file) (p16 .0);
+      counted = eqb-true (length file) (181 + stepCount file) (ends (eqb (length file) (181 + stepCount file)) 16 (p16 .1));
+    }

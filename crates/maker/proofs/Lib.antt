@@ -1,0 +1,5 @@
+pub mod Answers
+mod Acting
+mod Placing
+mod Lists
+mod Zeros
