@@ -1,6 +1,7 @@
 -- What each call of the card answers and leaves, for every input.
 use Prim.Native.Nat.{ℕ}
-use mathlib.Core.Bool.{Bool, cond, not}
+use mathlib.Core.Path.{_≡_}
+use mathlib.Core.Bool.{cond, not}
 use mathlib.Core.List.{List}
 use lib.Dec.{eqb, ltb}
 use lib.ListN.{length}
@@ -13,7 +14,10 @@ use Rattle.rules.specs.Card as Rules
 use Rattle.volatile.specs.declared.Volatile.{Volatile}
 use Rattle.card.specs.declared.Stepped.{Stepped}
 use Rattle.card.specs.declared.Ran.{Ran}
-use Rattle.volatile.specs.Packed.{packed, cardOf, madeUpWord}
+use Rattle.card.specs.declared.FlagsAnswer.{FlagsAnswer}
+use Rattle.card.specs.declared.FlagsAnswer.the-variants.{Held, Refused as Barred}
+use Rattle.volatile.specs.Packed.{packed, unpacked, cardOf, madeUpWord}
+use Rattle.card.specs.Moves.{ranTo}
 
 -- 10, 14, 9.
 unfoldable pub stateNumber : List ℕ → ℕ → Volatile → ℕ
@@ -75,3 +79,24 @@ runAnswers m fuses v steps answers =
     cond (eqb (runNumber m fuses v (length steps) (length answers)) 0)
     (Rules.answersIn (ranOn m fuses v steps .answers) answers)
     answers
+
+-- A step of whatever comes in.
+pub record StepAnswered (m : List ℕ) (fuses : ℕ) (v : Volatile) (n : ℕ) (r : Stepped) (after : List ℕ) : Type 0 where
+  pub answer : r ≡ stepAnswer m fuses v n
+  pub memory : after ≡ stepMemory m fuses v n
+
+-- A run of whatever comes in.
+pub record RunAnswered (m : List ℕ) (fuses : ℕ) (v : Volatile) (steps answers : List ℕ) (r : Ran) (after told : List ℕ) : Type 0 where
+  pub answer : r ≡ runAnswer m fuses v steps (length answers)
+  pub memory : after ≡ runMemory m fuses v steps (length answers)
+  pub pins : told ≡ runAnswers m fuses v steps answers
+
+-- "A separate call reads flags, refusing by 9".
+unfoldable pub flagsOf : Volatile → FlagsAnswer
+unfolding madeUpWord unpacked
+flagsOf v = cond (madeUpWord v) (Barred 9) (Held (unpacked v .sv) (unpacked v .p1) (unpacked v .r1) (unpacked v .e1))
+
+-- 01's number for each case of the flags' answer.
+unfoldable pub flagsNumber : FlagsAnswer → ℕ
+flagsNumber (Held sv p1 r1 e1) = 0
+flagsNumber (Barred k) = k

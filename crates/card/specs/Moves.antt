@@ -10,10 +10,12 @@ use Rattle.rules.specs.declared.Operation.{Operation}
 use Rattle.rules.specs.Halves.{Card}
 use Rattle.rules.specs.Programming.{fusesAfter, turns}
 use Rattle.rules.specs.Refusals.{refusal}
+use Rattle.rules.specs.Card.{stepped, Ran, run, answersIn}
 use Rattle.rules.specs.Steps.{programmed, next, pin}
 use Rattle.volatile.specs.declared.Volatile.{Volatile}
 use Rattle.volatile.specs.Packed.{packed, unpacked, cardOf, madeUpWord, operationNow}
 use Rattle.card.specs.declared.Moved.{Moved}
+use Rattle.card.specs.declared.Ran as Declared
 use Rattle.card.specs.declared.Done.{Done}
 
 -- A card that 10, 14 and 9 let pass, with its pin at hand.
@@ -45,3 +47,24 @@ movedBy m fuses v p n =
 -- What an operation leaves beside the image.
 unfoldable pub doneBy : Operation → List ℕ → ℕ → ℕ → Done
 doneBy op m fuses a = record { fuses = fusesAfter op fuses; turned = turns op m a }
+
+-- A step of the card: what it comes to, and the image it leaves.
+pub record Steps (m : List ℕ) (fuses : ℕ) (v : Volatile) (p n : ℕ) (r : Moved) (after : List ℕ) : Type 0 where
+  pub moved-is : r ≡ movedBy m fuses v p n
+  pub memory-is : after ≡ stepped (cardOf m fuses v) n .memory
+
+-- What a run of a sound card comes to.
+unfoldable pub ranTo : Ran → Declared.Ran
+ranTo r =
+    record {
+      fuses = r .card .fuses;
+      volatile = packed (r .card .volatile);
+      done = length (r .answers);
+      refusal = r .refused;
+    }
+
+-- A run: what it comes to, and the image and the answers that it leaves.
+pub record Runs (m : List ℕ) (fuses : ℕ) (v : Volatile) (steps answers : List ℕ) (r : Declared.Ran) (after told : List ℕ) : Type 0 where
+  pub ran-is : r ≡ ranTo (run (cardOf m fuses v) steps)
+  pub memory-is : after ≡ run (cardOf m fuses v) steps .card .memory
+  pub answers-are : told ≡ answersIn (run (cardOf m fuses v) steps .answers) answers

@@ -1,0 +1,31 @@
+-- The numbers before any step, in the order of their checks; and the tries left as a count of ones.
+use Prim.Native.Nat.{ℕ, _≤_, _<_}
+use mathlib.Core.Path.{_≡_, refl, sym, _∙_}
+use mathlib.Core.List.{List}
+use lib.Count.{ones, onesIn}
+use lib.Dec.{eqb}
+use borrow.Author.Tests.{eq-eqb, ne-eqb, lt-ltb, le-ltb, eqb-true}
+use Rattle.memory.proofs.Below.{all, below}
+use Rattle.volatile.specs.declared.Volatile.{Volatile}
+use Rattle.card.specs.Contracts.{stateNumber, runNumber}
+
+module _ (m : List ℕ) (fuses : ℕ) (v : Volatile) (steps room : ℕ) where
+  pub state-first : (k : ℕ) → stateNumber m fuses v ≡ k → (k ≡ 0 → ⊥) → runNumber m fuses v steps room ≡ k
+  unfolding runNumber
+  state-first k e h = rw (e, ne-eqb k 0 h)
+
+  pub over-long : stateNumber m fuses v ≡ 0 → 4096 < steps → runNumber m fuses v steps room ≡ 18
+  unfolding runNumber
+  over-long e h = rw (e, lt-ltb 4096 steps h)
+
+  pub no-room : stateNumber m fuses v ≡ 0 → steps ≤ 4096 → room < steps → runNumber m fuses v steps room ≡ 19
+  unfolding runNumber
+  no-room e h k = rw (e, le-ltb 4096 steps h, lt-ltb room steps k)
+
+  pub all-well : stateNumber m fuses v ≡ 0 → steps ≤ 4096 → steps ≤ room → runNumber m fuses v steps room ≡ 0
+  unfolding runNumber
+  all-well e h k = rw (e, le-ltb 4096 steps h, le-ltb room steps k)
+
+pub ones-of-byte : (x : ℕ) → x < 256 → ones x ≡ onesIn 8 x
+unfolding all ones onesIn
+ones-of-byte x h = eqb-true (ones x) (onesIn 8 x) (below 256 (λ (y : ℕ). eqb (ones y) (onesIn 8 y)) refl x h)

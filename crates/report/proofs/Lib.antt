@@ -1,0 +1,5 @@
+pub mod Digits
+pub mod Reading
+pub mod Laws
+pub mod Lengths
+pub mod CaseS

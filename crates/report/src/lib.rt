@@ -1,0 +1,165 @@
+// The session program's text, made in a lent buffer.
+ghost use mathlib.Core.Path.{_≡_};
+ghost use mathlib.Core.List.{_∷_, []};
+ghost use Prim.Native.Nat.{_+_, _≤_, _<_, min};
+ghost use lib.ListN.{length, take};
+ghost use Rattle.report.specs.Decimal.{digit, decimal};
+ghost use Rattle.report.specs.Lines.{numbered, line, answersLine, badText, fourLines};
+ghost use Rattle.report.specs.Buffer.{Made, Put};
+
+// What making a text came to: so many bytes written, or no room for them and the buffer as it was.
+pub enum Text {
+    Wrote(usize),
+    TooSmall,
+}
+
+// The last decimal digit of x, as a byte.
+fn digit_of(x: usize) -> u8
+    ensures { λ r. ⌜ r ≡ digit x ⌝ }
+{
+    48 + (x % 10) as u8
+}
+
+// How many digits x has.
+fn places(x: usize) -> usize
+    ensures { λ r. ⌜ (r ≡ length (decimal x)) × (r ≤ 20) ⌝ }
+{
+    let mut n = 1;
+    let mut rest = x;
+    while 10 <= rest {
+        rest = rest / 10;
+        n += 1;
+    }
+    n
+}
+
+// The writer of all parts: one byte, and the place behind it.
+fn put_byte(out: &mut [u8], at: usize, byte: u8) -> usize
+    requires { ⌜ at < length (now out) ⌝ }
+    ensures { λ r. ⌜ Put (now (out .entry)) at (byte ∷ []) r (now (out .exit)) ⌝ }
+{
+    out[at] = byte;
+    at + 1
+}
+
+fn put(out: &mut [u8], at: usize, bytes: &[u8]) -> usize
+    requires { ⌜ at + length (now bytes) ≤ length (now out) ⌝ }
+    ensures { λ r. ⌜ Put (now (out .entry)) at (now (bytes .entry)) r (now (out .exit)) ⌝ }
+{
+    let mut next = at;
+    let mut i = 0;
+    while i < bytes.len() {
+        next = put_byte(out, next, bytes[i]);
+        i += 1;
+    }
+    next
+}
+
+fn put_decimal(out: &mut [u8], at: usize, x: usize) -> usize
+    requires { ⌜ at + length (decimal x) ≤ length (now out) ⌝ }
+    ensures { λ r. ⌜ Put (now (out .entry)) at (decimal x) r (now (out .exit)) ⌝ }
+{
+    if x < 10 {
+        return put_byte(out, at, digit_of(x));
+    }
+    let front = x / 10;
+    let last = x % 10;
+    let next = put_decimal(out, at, front);
+    put_byte(out, next, digit_of(last))
+}
+
+fn put_number(out: &mut [u8], at: usize, word: &[u8], x: usize) -> usize
+    requires { ⌜ at + length (numbered (now word) x) ≤ length (now out) ⌝ }
+    ensures { λ r. ⌜ Put (now (out .entry)) at (numbered (now (word .entry)) x) r (now (out .exit)) ⌝ }
+{
+    let next = put(out, at, word);
+    put_decimal(out, next, x)
+}
+
+fn put_line(out: &mut [u8], at: usize, word: &[u8], x: usize) -> usize
+    requires { ⌜ at + length (line (now word) x) ≤ length (now out) ⌝ }
+    ensures { λ r. ⌜ Put (now (out .entry)) at (line (now (word .entry)) x) r (now (out .exit)) ⌝ }
+{
+    let end = put_number(out, at, word, x);
+    put(out, end, b"\n")
+}
+
+fn lesser(a: usize, b: usize) -> usize
+    ensures { λ r. ⌜ r ≡ min a b ⌝ }
+{
+    if a < b { a } else { b }
+}
+
+// The first `done` of the answers, all of them if there are fewer.
+fn put_answers(out: &mut [u8], at: usize, answers: &[u8], done: usize) -> usize
+    requires { ⌜ at + length (answersLine (take done (now answers))) ≤ length (now out) ⌝ }
+    ensures { λ r. ⌜ Put (now (out .entry)) at (answersLine (take done (now (answers .entry)))) r (now (out .exit)) ⌝ }
+{
+    let count = lesser(done, answers.len());
+    let mut next = at;
+    let mut i = 0;
+    while i < count {
+        next = put_byte(out, next, digit_of(answers[i] as usize));
+        i += 1;
+    }
+    put(out, next, b"\n")
+}
+
+// `bad N`, a line.
+pub fn bad(number: u8, out: &mut [u8]) -> Text
+    ensures { λ r. ⌜ Made (badText number) (now (out .entry)) r (now (out .exit)) ⌝ }
+{
+    let n = number as usize;
+    let total = 5 + places(n);
+    if out.len() < total {
+        return Text::TooSmall;
+    }
+    put_line(out, 0, b"bad ", n);
+    Text::Wrote(total)
+}
+
+// What the four lines take up: their words and newlines, their numbers, and the answers.
+fn lines_length(done: usize, given: usize, refusal: u8, answers: &[u8], left: u32) -> usize
+    ensures { λ r. ⌜ r ≡ length (fourLines done given refusal (now (answers .entry)) left) ⌝ }
+{
+    let count = lesser(done, answers.len());
+    let numbers = places(done) + places(given) + places(refusal as usize) + places(left as usize);
+    26 + numbers + count
+}
+
+fn put_lines(
+    out: &mut [u8],
+    done: usize,
+    given: usize,
+    refusal: u8,
+    answers: &[u8],
+    left: u32,
+) -> usize
+    requires { ⌜ length (fourLines done given refusal (now answers) left) ≤ length (now out) ⌝ }
+    ensures { λ r. ⌜ Put (now (out .entry)) 0 (fourLines done given refusal (now (answers .entry)) left) r (now (out .exit)) ⌝ }
+{
+    let after_done = put_number(out, 0, b"done ", done);
+    let after_given = put_line(out, after_done, b" of ", given);
+    let after_refused = put_line(out, after_given, b"refused ", refusal as usize);
+    let after_answers = put_answers(out, after_refused, answers, done);
+    put_line(out, after_answers, b"left ", left as usize)
+}
+
+// The four lines of a run that did `done` of the steps given.
+pub fn four_lines(
+    done: usize,
+    given: usize,
+    refusal: u8,
+    answers: &[u8],
+    left: u32,
+    out: &mut [u8],
+) -> Text
+    ensures { λ r. ⌜ Made (fourLines done given refusal (now (answers .entry)) left) (now (out .entry)) r (now (out .exit)) ⌝ }
+{
+    let all = lines_length(done, given, refusal, answers, left);
+    if out.len() < all {
+        return Text::TooSmall;
+    }
+    put_lines(out, done, given, refusal, answers, left);
+    Text::Wrote(all)
+}
