@@ -21,8 +21,8 @@ use Rattle.volatile.specs.Packed.{packed, unpacked, cardOf, madeUpWord, operati
 use Rattle.volatile.proofs.Packing.{packed-unpacked}
 use Rattle.card.specs.Moves.{Ready, moved, movedTo, programmedCard, movedBy, Steps}
 use Rattle.card.proofs.Turned.{by-difference, edge-by-difference, small-step, Turned, turned-by}
-use Rattle.card.proofs.Edges.{released, goes-to, stays, reads, keeps, refusal-at, next-at}
-use Rattle.card.proofs.Edges.{same-number, clk-number, pgm-number, rst-number, fus-number, io-number, vcc-number}
+use Rattle.card.proofs.EdgeLaws.{released, goes-to, stays, reads, keeps, refusal-at, next-at}
+use Rattle.card.proofs.EdgeLaws.{same-number, clk-number, pgm-number, rst-number, fus-number, io-number, vcc-number}
 
 -- 9's clauses, of a packed half.
 pub flags-small : (v : Volatile) → madeUpWord v ≡ false → v .flags < 128

@@ -1,8 +1,8 @@
 pub mod Fuses
 pub mod HandedOn
 pub mod Turned
-pub mod Edges
+pub mod EdgeLaws
 pub mod ByLine
 pub mod Loop
-pub mod Numbers
+pub mod NumberLaws
 pub mod Answers

@@ -20,7 +20,7 @@ use Rattle.rules.proofs.Soundness.{SoundCard, let-pass, passes, unmade, sound-s
 use Rattle.volatile.specs.declared.Volatile.{Volatile}
 use Rattle.volatile.specs.Packed.{packed, unpacked, cardOf, madeUpWord}
 use Rattle.volatile.proofs.Packing.{unpacked-packed, packed-unpacked, packed-small}
-use Rattle.card.specs.declared.Moved.{Moved}
+use Rattle.card.specs.declared.handed.Moved.{Moved}
 use Rattle.card.specs.declared.Ran as Declared
 use Rattle.card.specs.Moves.{Ready, moved, movedTo, movedBy, Steps, ranTo, Runs}
 use Rattle.card.specs.Contracts.{stateNumber}

@@ -14,9 +14,9 @@ use Rattle.rules.specs.Card.{stepped, Ran, run, answersIn}
 use Rattle.rules.specs.Steps.{programmed, next, pin}
 use Rattle.volatile.specs.declared.Volatile.{Volatile}
 use Rattle.volatile.specs.Packed.{packed, unpacked, cardOf, madeUpWord, operationNow}
-use Rattle.card.specs.declared.Moved.{Moved}
+use Rattle.card.specs.declared.handed.Moved.{Moved}
 use Rattle.card.specs.declared.Ran as Declared
-use Rattle.card.specs.declared.Done.{Done}
+use Rattle.card.specs.declared.programming.Done.{Done}
 
 -- A card that 10, 14 and 9 let pass, with its pin at hand.
 pub record Ready (m : List ℕ) (fuses : ℕ) (v : Volatile) (p : ℕ) : Type 0 where

@@ -1,0 +1,37 @@
+// The numbers that are given before any step.
+use volatile::Volatile;
+ghost use mathlib.Core.Path.{_≡_};
+ghost use Rattle.card.specs.Contracts.{stateNumber, runNumber};
+
+// 10, 14, 9.
+pub(crate) fn state_number(image: &[u8], fuses: u8, v: Volatile) -> u8
+    ensures { λ r. ⌜ r ≡ stateNumber (now (image .entry)) fuses v ⌝ }
+{
+    if image.len() != 174 {
+        return 10;
+    }
+    if 7 < fuses {
+        return 14;
+    }
+    if v.made_up() {
+        return 9;
+    }
+    0
+}
+
+// 10, 14, 9, 18, 19.
+pub(crate) fn run_number(image: &[u8], fuses: u8, v: Volatile, steps: usize, room: usize) -> u8
+    ensures { λ r. ⌜ r ≡ runNumber (now (image .entry)) fuses v steps room ⌝ }
+{
+    let number = state_number(image, fuses, v);
+    if number != 0 {
+        return number;
+    }
+    if 4096 < steps {
+        return 18;
+    }
+    if room < steps {
+        return 19;
+    }
+    0
+}
