@@ -3,6 +3,7 @@ pub mod HandedOn
 pub mod Turned
 pub mod EdgeLaws
 pub mod ByLine
+pub mod PlainMoves
 pub mod Loop
 pub mod NumberLaws
 pub mod Answers

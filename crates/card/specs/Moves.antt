@@ -1,8 +1,9 @@
 -- One step inside the card: what the private functions of the loop take for granted and what they hand on.
-use Prim.Native.Nat.{ℕ, _≤_}
+use Prim.Native.Nat.{ℕ, _+_, _≤_, _<_}
+use mathlib.Core.Logic.{_⊎_}
 use mathlib.Core.Path.{_≡_}
-use mathlib.Core.Bool.{false, cond}
-use mathlib.Core.List.{List}
+use mathlib.Core.Bool.{Bool, false, cond}
+use mathlib.Core.List.{List, []}
 use lib.Dec.{eqb}
 use lib.ListN.{length}
 use Rattle.memory.specs.Image.{bytes}
@@ -11,9 +12,9 @@ use Rattle.rules.specs.Halves.{Card}
 use Rattle.rules.specs.Programming.{fusesAfter, turns}
 use Rattle.rules.specs.Refusals.{refusal}
 use Rattle.rules.specs.Card.{stepped, Ran, run, answersIn}
-use Rattle.rules.specs.Steps.{programmed, next, pin}
+use Rattle.rules.specs.Steps.{programmed, next, driven, pin}
 use Rattle.volatile.specs.declared.Volatile.{Volatile}
-use Rattle.volatile.specs.Packed.{packed, unpacked, cardOf, madeUpWord, operationNow}
+use Rattle.volatile.specs.Packed.{packed, unpacked, cardOf, madeUpWord, goneOn, operationNow}
 use Rattle.card.specs.declared.handed.Moved.{Moved}
 use Rattle.card.specs.declared.Ran as Declared
 use Rattle.card.specs.declared.programming.Done.{Done}
@@ -35,6 +36,14 @@ movedTo c = moved (packed (c .volatile)) (c .fuses) (pin c) 0
 -- The card after CLK's fall in programming.
 unfoldable pub programmedCard : List ℕ → ℕ → Volatile → ℕ → Card
 programmedCard m fuses v n = programmed (operationNow fuses (unpacked v)) n (cardOf m fuses v)
+
+-- Addresses from which a move compares nothing and arrives where nothing comes of it: within FZ and IZ, and within AZ past its flags.
+abbrev pub Plain : ℕ → Type 0
+Plain a = (a < 79) ⊎ ((177 ≤ a) × (a < 1198))
+
+-- The pin is driven after such a move.
+unfoldable pub driven-on : ℕ → Volatile → ℕ → Bool
+driven-on fuses v n = driven (record { memory = []; fuses = fuses; volatile = goneOn n (v .address + 1) (unpacked v) })
 
 -- The halves, the pin and 0 after an accepted step; all as it came and the number after a refused one.
 unfoldable pub movedBy : List ℕ → ℕ → Volatile → ℕ → ℕ → Moved

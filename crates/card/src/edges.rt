@@ -10,7 +10,7 @@ ghost use lib.Bits.{bitXor};
 ghost use Rattle.rules.specs.Match.{following};
 ghost use Rattle.rules.specs.Steps.{pin, clocked};
 ghost use Rattle.volatile.specs.Packed.{cardOf};
-ghost use Rattle.card.specs.Moves.{Ready, movedTo, Steps};
+ghost use Rattle.card.specs.Moves.{Ready, movedTo, Plain, driven-on, Steps};
 
 // The address goes up by one, 1519 going to 0.
 pub(crate) fn following(a: u32) -> u32
@@ -23,6 +23,20 @@ pub(crate) fn following(a: u32) -> u32
     a + 1
 }
 
+// CLK falls where nothing is compared and nothing comes of the arrival: on by one, to a bit that is driven or not.
+pub(crate) fn clock_goes_on(v: Volatile, image: &[u8], fuses: u8, n: u32, driven: bool) -> Moved
+    requires plain { ⌜ Plain (v .address) ⌝ }
+    requires pin { ⌜ driven ≡ driven-on fuses v n ⌝ }
+    ensures { λ r. ⌜ r ≡ movedTo (clocked n (cardOf (now (image .entry)) fuses v)) ⌝ }
+{
+    let a = v.address + 1;
+    let next = v.goes_on(n, a);
+    if driven & !memory::read_bit(image, a as usize) {
+        return handed::kept(next, fuses, 0);
+    }
+    handed::kept(next, fuses, 1)
+}
+
 // CLK falls with RST low and no programming: compare, and on by one.
 pub(crate) fn clock_moves(v: Volatile, image: &[u8], fuses: u8, n: u32) -> Moved
     requires { ⌜ v .address ≤ 1519 ⌝ }
@@ -32,6 +46,25 @@ pub(crate) fn clock_moves(v: Volatile, image: &[u8], fuses: u8, n: u32) -> Moved
     let matched = v.compared(image, v.level1(fuses));
     let next = v.unlatched(n, matched).arrives(image, fuses, following(a));
     handed::accepted(next, image, fuses)
+}
+
+// CLK falls with RST low and no programming, most often in a zone that is walked over or read out.
+pub(crate) fn clock_counts(v: Volatile, image: &[u8], fuses: u8, n: u32) -> Moved
+    requires { ⌜ v .address ≤ 1519 ⌝ }
+    ensures { λ r. ⌜ r ≡ movedTo (clocked n (cardOf (now (image .entry)) fuses v)) ⌝ }
+{
+    let a = v.address;
+    if n & 11 == 1 {
+        if a < 79 {
+            return clock_goes_on(v, image, fuses, n, true);
+        }
+        if 177 <= a {
+            if a < 1198 {
+                return clock_goes_on(v, image, fuses, n, v.flags & 5 != 0);
+            }
+        }
+    }
+    clock_moves(v, image, fuses, n)
 }
 
 // CLK rises or falls.
@@ -57,7 +90,7 @@ pub(crate) fn clock(v: Volatile, image: &mut [u8], fuses: u8, pin: u8, n: u32) -
         let matched = is_set(v.flags, volatile::MATCH);
         return handed::kept(v.unlatched(n, matched), fuses, pin);
     }
-    clock_moves(v, image, fuses, n)
+    clock_counts(v, image, fuses, n)
 }
 
 // PGM rises or falls.

@@ -17,7 +17,7 @@ use Rattle.rules.specs.Zones.{between}
 use Rattle.rules.specs.Match.{arrived, endsMatch}
 use Rattle.rules.specs.Steps.{follows, clkRises, unlatched}
 use Rattle.volatile.specs.declared.Volatile.{Volatile}
-use Rattle.volatile.specs.Packed.{word, packed, unpacked, programmedHalf, arrivalFlags, openingFlags}
+use Rattle.volatile.specs.Packed.{word, packed, unpacked, goneOn, programmedHalf, arrivalFlags, openingFlags}
 use Rattle.volatile.proofs.Packing.{at-digits, masked-flags, mask-low, digit-low, change-of-flags}
 
 abbrev pub half : ℕ → ℕ → ℕ → Volatile
@@ -44,6 +44,13 @@ module _ (v : Volatile) (n : ℕ) where
   unlatched-word false =
       ap (half n (v .address))
       (masked-flags (λ (x : ℕ). x) 39 (λ sv p1 r1 programming latch e1 matched. word sv p1 r1 false false e1 false) (omega arith) refl
+      (v .flags))
+
+  pub gone-on-word : (a : ℕ) → half n a (bitAnd (v .flags) 103) ≡ packed (goneOn n a (unpacked v))
+  unfolding packed goneOn unpacked all digit word
+  gone-on-word a =
+      ap (half n a)
+      (masked-flags (λ (x : ℕ). x) 103 (λ sv p1 r1 programming latch e1 matched. word sv p1 r1 false false e1 matched) (omega arith) refl
       (v .flags))
 
   -- CLK's rise takes programming and the latch from the step.

@@ -2,3 +2,4 @@ pub mod Between
 pub mod Packing
 pub mod Edges
 pub mod Sums
+pub mod Readable

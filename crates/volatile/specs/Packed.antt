@@ -91,6 +91,21 @@ mayProgramNow fuses v =
 unfoldable pub operationNow : ℕ → Halves.Volatile → Operation
 operationNow fuses v = operation (held fuses v) (unblown EC-EN fuses) (high RST (v .lines)) (v .latch) (v .address)
 
+-- The volatile half where the address has gone on to a, and nothing came of it.
+unfoldable pub goneOn : ℕ → ℕ → Halves.Volatile → Halves.Volatile
+goneOn n a v =
+    record {
+      lines = n;
+      address = a;
+      sv = v .sv;
+      p1 = v .p1;
+      r1 = v .r1;
+      e1 = v .e1;
+      matched = v .matched;
+      latch = false;
+      programming = false;
+    }
+
 -- The word of the flags that an arrival sets.
 unfoldable pub arrivalFlags : List ℕ → ℕ → ℕ → Bool → ℕ
 arrivalFlags m fuses a matched =

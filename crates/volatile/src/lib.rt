@@ -10,7 +10,7 @@ ghost use Rattle.rules.specs.Zones.{zone};
 ghost use Rattle.rules.specs.Rights.{held, level1, mayRead};
 ghost use Rattle.rules.specs.Match.{arrived};
 ghost use Rattle.rules.specs.Steps.{follows, clkRises, unlatched, driven, pin};
-ghost use Rattle.volatile.specs.Packed.{packed, unpacked, cardOf, madeUpWord, lackingOf, programmedHalf, openingFlags, arrivalFlags, comparedHere, mayProgramNow, operationNow};
+ghost use Rattle.volatile.specs.Packed.{packed, unpacked, cardOf, madeUpWord, lackingOf, programmedHalf, goneOn, openingFlags, arrivalFlags, comparedHere, mayProgramNow, operationNow};
 
 // Places of the lines in a step.
 pub const VCC: u32 = 0;
@@ -171,6 +171,16 @@ impl Volatile {
         self
     }
 
+    // CLK falls where nothing is compared and nothing comes of the arrival: the latch is cleared, and the address is a.
+    pub fn goes_on(mut self, n: u32, a: u32) -> Self
+        ensures { λ r. ⌜ r ≡ packed (goneOn n a (unpacked self)) ⌝ }
+    {
+        self.lines = n;
+        self.address = a;
+        self.flags = self.flags & 103;
+        self
+    }
+
     // What arriving at an address does.
     pub fn arrives(mut self, image: &[u8], fuses: u8, a: u32) -> Self
         ensures { λ r. ⌜ r ≡ packed (arrived (now (image .entry)) fuses a (unpacked self)) ⌝ }
@@ -226,7 +236,22 @@ impl Volatile {
         flags + lasting + unless(is_set(self.lines, FUS), 64) + unless(open, 128)
     }
 
+    // Whether the address may be read. The zones that are walked over and read out most are tested first.
     pub fn may_read(self, fuses: u8) -> bool
+        ensures { λ r. ⌜ r ≡ mayRead (held fuses (unpacked self)) (zone (self .address)) ⌝ }
+    {
+        let a = self.address;
+        if a < 80 {
+            return true;
+        }
+        if (176 <= a) & (a < 1200) {
+            return self.flags & 5 != 0;
+        }
+        self.may_read_by_table(fuses)
+    }
+
+    // The same, by the table of rights.
+    pub fn may_read_by_table(self, fuses: u8) -> bool
         ensures { λ r. ⌜ r ≡ mayRead (held fuses (unpacked self)) (zone (self .address)) ⌝ }
     {
         let z = rights::zone_of(self.address);

@@ -95,8 +95,8 @@ returns-5 c =
     let t = line-turned (now (a .image)) (a .fuses) (a .v) (a .pin) (a .n) ready CLK 4 (omega arith) refl (c .before .before .before .before .before .before .before .before .before .before .before .before .pre .1) in
     rw (c .kept3 .ensures, c .before .unlatched .ensures, c .before .before .is-set6 .ensures) (clk-reset (now (a .image)) (a .fuses) (a .v) (a .pin) (a .n) ready t (sym (c .before .before .before .before .before .before .before .before .before .before .is-set .ensures) ∙ not-false (c .before .before .before .before .before .before .before .before .before .before .is-set .result) (c .before .before .before .before .before .before .before .before .before .if1 .left)) (sym (c .before .before .before .before .before .before .before .before .is-set2 .ensures) ∙ not-false (c .before .before .before .before .before .before .before .before .is-set2 .result) (c .before .before .before .before .before .before .before .if2 .left)) (sym (c .before .before .before .before .before .before .is-set3 .ensures) ∙ c .before .before .before .before .before .if3 .left) (sym (c .before .before .before .before .is-set5 .ensures) ∙ c .before .before .before .if5 .taken))
 
-clock-moves-requires : tie.Need-clock-moves-requires
-clock-moves-requires c κs =
+clock-counts-requires : tie.Need-clock-counts-requires
+clock-counts-requires c κs =
     let a = c .before .before .before .before .before .before .before .before .before .before .args in
     address-within (now (a .image)) (a .fuses) (a .v) (a .pin) (a .n) (c .before .before .before .before .before .before .before .before .before .before .pre .0)
 
@@ -109,7 +109,7 @@ returns-6 c =
     let a = c .before .before .before .before .before .before .before .before .before .before .before .args in
     let ready = c .before .before .before .before .before .before .before .before .before .before .before .pre .0 in
     let t = line-turned (now (a .image)) (a .fuses) (a .v) (a .pin) (a .n) ready CLK 4 (omega arith) refl (c .before .before .before .before .before .before .before .before .before .before .before .pre .1) in
-    rw (c .clock-moves .ensures) (clk-moves (now (a .image)) (a .fuses) (a .v) (a .pin) (a .n) ready t (sym (c .before .before .before .before .before .before .before .before .before .is-set .ensures) ∙ not-false (c .before .before .before .before .before .before .before .before .before .is-set .result) (c .before .before .before .before .before .before .before .before .if1 .left)) (sym (c .before .before .before .before .before .before .before .is-set2 .ensures) ∙ not-false (c .before .before .before .before .before .before .before .is-set2 .result) (c .before .before .before .before .before .before .if2 .left)) (sym (c .before .before .before .before .before .is-set3 .ensures) ∙ c .before .before .before .before .if3 .left) (sym (c .before .before .before .is-set5 .ensures) ∙ c .before .before .if5 .left))
+    rw (c .clock-counts .ensures) (clk-moves (now (a .image)) (a .fuses) (a .v) (a .pin) (a .n) ready t (sym (c .before .before .before .before .before .before .before .before .before .is-set .ensures) ∙ not-false (c .before .before .before .before .before .before .before .before .before .is-set .result) (c .before .before .before .before .before .before .before .before .if1 .left)) (sym (c .before .before .before .before .before .before .before .is-set2 .ensures) ∙ not-false (c .before .before .before .before .before .before .before .is-set2 .result) (c .before .before .before .before .before .before .if2 .left)) (sym (c .before .before .before .before .before .is-set3 .ensures) ∙ c .before .before .before .before .if3 .left) (sym (c .before .before .before .is-set5 .ensures) ∙ c .before .before .if5 .left))
 
 pub clock-spec : {M : Type 1} → statement M
 clock-spec =
@@ -135,6 +135,6 @@ clock-spec =
     unlatched-requires
     kept-requires-3
     returns-5
-    clock-moves-requires
+    clock-counts-requires
     same-length-2
     returns-6)

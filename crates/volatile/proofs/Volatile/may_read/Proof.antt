@@ -1,35 +1,36 @@
-use Prim.Native.Nat.{_<_}
-use Rattle.rules.specs.Zones.{zone}
-use Rattle.volatile.specs.Packed.{unpacked}
-use mathlib.Core.Path.{ap}
 use native.Mathlib.Omega.{arith}
-use Rattle.rules.specs.Rights.{held, level1, rights, mayRead}
-use Rattle.volatile.proofs.Sums.{granted-mask}
+use mathlib.Core.Path.{sym, _∙_}
+use lib.Dec.{leb, ltb}
 use borrow.Author.Needs.{needs}
+use borrow.Author.Tests.{leb-true, ltb-true}
+use Rattle.memory.proofs.Below.{and-left, and-right}
+use Rattle.rules.specs.Rights.{held}
+use Rattle.volatile.specs.Packed.{unpacked}
+use Rattle.volatile.proofs.Readable.{low-readable, az-readable, sv-or-r1}
 use Rattle.volatile.proofs.Volatile.may_read.Statement.{statement}
 use Rattle.volatile.proofs.Volatile.may_read.Tie as tie
 
-zone-of-requires : tie.Need-zone-of-requires
-zone-of-requires c κs = search needs
-
-level1-requires : tie.Need-level1-requires
-level1-requires c κs = search needs
-
-right-of-requires : tie.Need-right-of-requires
-right-of-requires c κs = search needs
-
-lacking-requires : tie.Need-lacking-requires
-lacking-requires c κs = search needs
-
 returns : tie.Need-returns
-unfolding mayRead
 returns c =
-    let h = held (c .before .before .before .before .args .fuses) (unpacked (c .before .before .before .before .args .self)) in
-    let z = zone (c .before .before .before .before .args .self .address) in
-    let small : c .before .right-of .result .read < 256 = omega (arith, c .before .right-of .ok) in
-    rw (c .before .right-of .ensures, c .before .before .level1 .ensures, c .before .before .before .zone-of .ensures, c .lacking .ensures) (granted-mask (rights (level1 h) z .read) (rw (c .before .right-of .ensures, c .before .before .level1 .ensures, c .before .before .before .zone-of .ensures) at small) h)
+    let args = c .before .args in
+    sym (low-readable (held (args .fuses) (unpacked (args .self))) (args .self .address) (omega arith))
+
+returns-2 : tie.Need-returns-2
+unfolding held unpacked
+returns-2 c =
+    let args = c .before .before .before .args in
+    let a = args .self .address in
+    let both = c .before .if2 .taken in
+    let low = leb-true 176 a (and-left (leb 176 a) (ltb a 1200) both) in
+    let high = ltb-true a 1200 (and-right (leb 176 a) (ltb a 1200) both) in
+    sv-or-r1 (args .self .flags) ∙
+    sym (az-readable (held (args .fuses) (unpacked (args .self))) a low (omega (arith, high)))
+
+may-read-by-table-requires : tie.Need-may-read-by-table-requires
+may-read-by-table-requires c κs = search needs
+
+returns-3 : tie.Need-returns-3
+returns-3 c = search needs
 
 pub may-read-spec : {M : Type 1} → statement M
-may-read-spec =
-    tie.close
-    (tie.spec zone-of-requires level1-requires right-of-requires lacking-requires returns)
+may-read-spec = tie.close (tie.spec returns returns-2 may-read-by-table-requires returns-3)

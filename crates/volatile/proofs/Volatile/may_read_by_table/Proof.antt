@@ -1,0 +1,35 @@
+use Prim.Native.Nat.{_<_}
+use Rattle.rules.specs.Zones.{zone}
+use Rattle.volatile.specs.Packed.{unpacked}
+use mathlib.Core.Path.{ap}
+use native.Mathlib.Omega.{arith}
+use Rattle.rules.specs.Rights.{held, level1, rights, mayRead}
+use Rattle.volatile.proofs.Sums.{granted-mask}
+use borrow.Author.Needs.{needs}
+use Rattle.volatile.proofs.Volatile.may_read_by_table.Statement.{statement}
+use Rattle.volatile.proofs.Volatile.may_read_by_table.Tie as tie
+
+zone-of-requires : tie.Need-zone-of-requires
+zone-of-requires c κs = search needs
+
+level1-requires : tie.Need-level1-requires
+level1-requires c κs = search needs
+
+right-of-requires : tie.Need-right-of-requires
+right-of-requires c κs = search needs
+
+lacking-requires : tie.Need-lacking-requires
+lacking-requires c κs = search needs
+
+returns : tie.Need-returns
+unfolding mayRead
+returns c =
+    let h = held (c .before .before .before .before .args .fuses) (unpacked (c .before .before .before .before .args .self)) in
+    let z = zone (c .before .before .before .before .args .self .address) in
+    let small : c .before .right-of .result .read < 256 = omega (arith, c .before .right-of .ok) in
+    rw (c .before .right-of .ensures, c .before .before .level1 .ensures, c .before .before .before .zone-of .ensures, c .lacking .ensures) (granted-mask (rights (level1 h) z .read) (rw (c .before .right-of .ensures, c .before .before .level1 .ensures, c .before .before .before .zone-of .ensures) at small) h)
+
+pub may-read-by-table-spec : {M : Type 1} → statement M
+may-read-by-table-spec =
+    tie.close
+    (tie.spec zone-of-requires level1-requires right-of-requires lacking-requires returns)
