@@ -3,3 +3,4 @@ pub mod Packing
 pub mod Edges
 pub mod Sums
 pub mod Readable
+pub mod PlainlySound

@@ -1,8 +1,9 @@
 -- The volatile half as the code holds it: three words, with the flags and the latch as the digits of one.
-use Prim.Native.Nat.{ℕ, _+_, _*_}
+use Prim.Native.Nat.{ℕ, _+_, _*_, _/_, _%_}
 use mathlib.Core.Bool.{Bool, true, false, cond, not, _&&_, _||_}
 use mathlib.Core.List.{List}
-use lib.Dec.{eqb, ltb}
+use lib.Dec.{eqb, ltb, leb}
+use lib.Bits.{bitAnd}
 use Rattle.memory.specs.Image.{digit, bit}
 use Rattle.rules.specs.declared.Operation.{Operation}
 use Rattle.rules.specs.Halves.{Card, EC-EN, unblown}
@@ -57,6 +58,12 @@ cardOf m fuses v = record { memory = m; fuses = fuses; volatile = unpacked v }
 unfoldable pub madeUpWord : Volatile → Bool
 unfolding unpacked
 madeUpWord v = ltb 127 (v .flags) || madeUp (unpacked v)
+
+-- A powered half outside programming, match and E1, by a few tests of its words.
+unfoldable pub plainlySound : Volatile → Bool
+plainlySound v =
+    ltb (v .lines) 64 && (eqb (bitAnd (v .lines) 1) 1 && not (eqb (bitAnd (v .lines) 12) 12)) &&
+    (ltb (v .flags) 32 && (eqb (bitAnd (v .flags) 8) 0 && leb (v .flags / 16) (v .lines / 4 % 2)) && leb (v .address) 1519)
 
 -- The things that a right may ask for and that are not there, as a mask.
 unfoldable pub lackingOf : Held → ℕ

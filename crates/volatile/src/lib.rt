@@ -10,7 +10,7 @@ ghost use Rattle.rules.specs.Zones.{zone};
 ghost use Rattle.rules.specs.Rights.{held, level1, mayRead};
 ghost use Rattle.rules.specs.Match.{arrived};
 ghost use Rattle.rules.specs.Steps.{follows, clkRises, unlatched, driven, pin};
-ghost use Rattle.volatile.specs.Packed.{packed, unpacked, cardOf, madeUpWord, lackingOf, programmedHalf, goneOn, openingFlags, arrivalFlags, comparedHere, mayProgramNow, operationNow};
+ghost use Rattle.volatile.specs.Packed.{packed, unpacked, cardOf, madeUpWord, plainlySound, lackingOf, programmedHalf, goneOn, openingFlags, arrivalFlags, comparedHere, mayProgramNow, operationNow};
 
 // Places of the lines in a step.
 pub const VCC: u32 = 0;
@@ -333,8 +333,29 @@ impl Volatile {
         Operation::Nothing
     }
 
+    // A powered card outside programming, match and E1: what most steps start from.
+    pub fn plainly_sound(self) -> bool
+        ensures { λ r. ⌜ r ≡ plainlySound self ⌝ }
+    {
+        let lines = self.lines;
+        let flags = self.flags;
+        let powered = (lines < 64) & ((lines & 1 == 1) & (lines & 12 != 12));
+        let quiet = (flags < 32) & ((flags & 8 == 0) & (flags / 16 <= lines / 4 % 2));
+        powered & (quiet & (self.address <= 1519))
+    }
+
     // 9: a made-up state.
     pub fn made_up(self) -> bool
+        ensures { λ r. ⌜ r ≡ madeUpWord self ⌝ }
+    {
+        if self.plainly_sound() {
+            return false;
+        }
+        self.made_up_by_clause()
+    }
+
+    // 9, clause by clause.
+    pub fn made_up_by_clause(self) -> bool
         ensures { λ r. ⌜ r ≡ madeUpWord self ⌝ }
     {
         let a = self.address;

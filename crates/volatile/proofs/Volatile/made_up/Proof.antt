@@ -1,46 +1,21 @@
-use Rattle.rules.specs.Zones.{between}
-use Rattle.volatile.proofs.Sums.{checked-together}
+use mathlib.Core.Path.{sym, _∙_}
+use Rattle.volatile.proofs.PlainlySound.{plainly-sound}
 use borrow.Author.Needs.{needs}
 use Rattle.volatile.proofs.Volatile.made_up.Statement.{statement}
 use Rattle.volatile.proofs.Volatile.made_up.Tie as tie
 
-is-set-requires : tie.Need-is-set-requires
-is-set-requires c κs = search needs
-
-is-set-requires-2 : tie.Need-is-set-requires-2
-is-set-requires-2 c κs = search needs
-
-is-set-requires-3 : tie.Need-is-set-requires-3
-is-set-requires-3 c κs = search needs
-
-is-set-requires-4 : tie.Need-is-set-requires-4
-is-set-requires-4 c κs = search needs
-
-is-set-requires-5 : tie.Need-is-set-requires-5
-is-set-requires-5 c κs = search needs
-
-is-set-requires-6 : tie.Need-is-set-requires-6
-is-set-requires-6 c κs = search needs
-
-is-set-requires-7 : tie.Need-is-set-requires-7
-is-set-requires-7 c κs = search needs
+plainly-sound-requires : tie.Need-plainly-sound-requires
+plainly-sound-requires c κs = search needs
 
 returns : tie.Need-returns
-unfolding between
-returns c =
-    rw
-    (c .before .before .before .before .before .before .before .is-set .ensures, c .before .before .before .before .before .before .is-set2 .ensures, c .before .before .before .before .before .is-set3 .ensures, c .before .before .before .before .is-set4 .ensures, c .before .before .before .is-set5 .ensures, c .before .before .is-set6 .ensures, c .before .is-set7 .ensures)
-    (checked-together (c .before .before .before .before .before .before .before .before .args .self))
+returns c = sym (plainly-sound (c .before .before .args .self) (sym (c .before .plainly-sound .ensures) ∙ c .if1 .taken))
+
+made-up-by-clause-requires : tie.Need-made-up-by-clause-requires
+made-up-by-clause-requires c κs = search needs
+
+returns-2 : tie.Need-returns-2
+returns-2 c = search needs
 
 pub made-up-spec : {M : Type 1} → statement M
 made-up-spec =
-    tie.close
-    (tie.spec
-    is-set-requires
-    is-set-requires-2
-    is-set-requires-3
-    is-set-requires-4
-    is-set-requires-5
-    is-set-requires-6
-    is-set-requires-7
-    returns)
+    tie.close (tie.spec plainly-sound-requires returns made-up-by-clause-requires returns-2)
