@@ -20,7 +20,7 @@ use Rattle.card.specs.Contracts.{stateNumber, runNumber, ranOn, runAnswe
 use Rattle.card.specs.Contracts.{StepAnswered, RunAnswered}
 
 -- A chain of numbers that comes to 0 has none.
-none-of : (k : ℕ) (r : ℕ) → cond (eqb k 0) r k ≡ 0 → k ≡ 0
+none-of : (k : ℕ) (r : ℕ) → cond (not (eqb k 0)) k r ≡ 0 → k ≡ 0
 none-of k r e = go (eqb k 0) refl
   where
     go : (t : Bool) → eqb k 0 ≡ t → k ≡ 0

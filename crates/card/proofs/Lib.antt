@@ -7,3 +7,4 @@ pub mod PlainMoves
 pub mod Loop
 pub mod NumberLaws
 pub mod Answers
+pub mod Checked

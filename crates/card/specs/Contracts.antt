@@ -9,7 +9,7 @@ use Rattle.memory.specs.Image.{bytes}
 use Rattle.rules.specs.declared.Answer.{Answer}
 use Rattle.rules.specs.declared.Answer.the-variants.{Refused}
 use Rattle.rules.specs.Halves.{Card}
-use Rattle.rules.specs.Refusals.{longest}
+use Rattle.rules.specs.Refusals.{before-a-step, before-a-run}
 use Rattle.rules.specs.Card as Rules
 use Rattle.volatile.specs.declared.Volatile.{Volatile}
 use Rattle.card.specs.declared.Stepped.{Stepped}
@@ -21,8 +21,8 @@ use Rattle.card.specs.Moves.{ranTo}
 
 -- 10, 14, 9.
 unfoldable pub stateNumber : List ℕ → ℕ → Volatile → ℕ
-unfolding madeUpWord
-stateNumber m fuses v = cond (not (eqb (length m) bytes)) 10 (cond (ltb 7 fuses) 14 (cond (madeUpWord v) 9 0))
+unfolding madeUpWord before-a-step
+stateNumber m fuses v = before-a-step m fuses (madeUpWord v)
 
 -- A step's answer, with the halves that are handed back.
 unfoldable pub stepAnswer : List ℕ → ℕ → Volatile → ℕ → Stepped
@@ -45,10 +45,8 @@ stepMemory m fuses v n = cond (eqb (stateNumber m fuses v) 0) (Rules.stepped (ca
 
 -- 10, 14, 9, 18, 19.
 unfoldable pub runNumber : List ℕ → ℕ → Volatile → ℕ → ℕ → ℕ
-unfolding stateNumber
-runNumber m fuses v steps room =
-    let k = stateNumber m fuses v in
-    cond (eqb k 0) (cond (ltb longest steps) 18 (cond (ltb room steps) 19 0)) k
+unfolding stateNumber before-a-run
+runNumber m fuses v steps room = before-a-run (stateNumber m fuses v) steps room
 
 -- What a run from a packed half comes to, in the card's own terms.
 unfoldable pub ranOn : List ℕ → ℕ → Volatile → List ℕ → Rules.Ran

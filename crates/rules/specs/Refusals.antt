@@ -70,18 +70,22 @@ madeUp v =
     (v .matched && not (between 81 103 (v .address) || between 1201 1359 (v .address)) ||
     v .e1 && not (between 1232 1519 (v .address))))))))
 
--- 10, 14, 9: "memory buffer isn't 174 bytes", "fuse byte over 7", "made-up state".
+-- 10, 14, 9, where `made` says whether the state is made up: "memory buffer isn't 174 bytes", "fuse byte over 7", "made-up state".
+unfoldable pub before-a-step : List ℕ → ℕ → Bool → ℕ
+before-a-step m fuses made = cond (not (eqb (length m) bytes)) 10 (cond (ltb 7 fuses) 14 (cond made 9 0))
+
 unfoldable pub stateRefusal : List ℕ → ℕ → Volatile → ℕ
-unfolding madeUp
-stateRefusal m fuses v = cond (not (eqb (length m) bytes)) 10 (cond (ltb 7 fuses) 14 (cond (madeUp v) 9 0))
+unfolding madeUp before-a-step
+stateRefusal m fuses v = before-a-step m fuses (madeUp v)
 
 -- "a run of over 4,096 steps"
 abbrev pub longest : ℕ
 longest = 4096
 
--- 10, 14, 9, 18, 19: before any step of a run.
+-- 18 and 19, after a number k that comes before them: 10, 14, 9, or 0 for none.
+unfoldable pub before-a-run : ℕ → ℕ → ℕ → ℕ
+before-a-run k steps room = cond (not (eqb k 0)) k (cond (ltb longest steps) 18 (cond (ltb room steps) 19 0))
+
 unfoldable pub runRefusal : List ℕ → ℕ → Volatile → ℕ → ℕ → ℕ
-unfolding stateRefusal
-runRefusal m fuses v steps room =
-    let r = stateRefusal m fuses v in
-    cond (not (eqb r 0)) r (cond (ltb longest steps) 18 (cond (ltb room steps) 19 0))
+unfolding stateRefusal before-a-run
+runRefusal m fuses v steps room = before-a-run (stateRefusal m fuses v) steps room
