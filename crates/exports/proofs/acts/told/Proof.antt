@@ -1,0 +1,21 @@
+use Rattle.exports.specs.Rendered.{madeOf}
+use borrow.Author.Needs.{needs}
+use Rattle.exports.proofs.acts.told.Statement.{statement}
+use Rattle.exports.proofs.acts.told.Tie as tie
+
+enum-known-made : tie.Need-enum-known-made
+enum-known-made c = search needs
+
+enum-known-made-2 : tie.Need-enum-known-made-2
+enum-known-made-2 c = search needs
+
+returns : tie.Need-returns
+unfolding madeOf
+returns c = rw (c .before .made .given .1)
+
+returns-2 : tie.Need-returns-2
+unfolding madeOf
+returns-2 c = rw (c .before .made2 .given .1)
+
+pub told-spec : {M : Type 1} → statement M
+told-spec = tie.close (tie.spec enum-known-made enum-known-made-2 returns returns-2)

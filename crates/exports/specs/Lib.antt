@@ -1,0 +1,2 @@
+pub mod Rendered
+pub mod Told

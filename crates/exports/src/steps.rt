@@ -1,0 +1,151 @@
+// The card, driven by a bench.
+ghost use mathlib.Core.Path.{_≡_};
+ghost use Rattle.rules.specs.Halves.{fresh};
+ghost use Rattle.rules.specs.Card.{triesLeft};
+ghost use Rattle.volatile.specs.Packed.{packed};
+ghost use Rattle.card.specs.Contracts.{flagsOf};
+ghost use Rattle.exports.specs.Rendered.{flagBytes};
+ghost use Rattle.exports.specs.Told.{StepTold, StepToldAt, RunTold};
+use card::FlagsAnswer;
+use rules::Answer;
+use volatile::Volatile;
+
+// What a step comes to: both halves, the pin's answer, 1 where refused, and the refusal, 0 if none.
+#[repr(C)]
+pub struct ZhavStepped {
+    pub half: Volatile,
+    pub fuses: u8,
+    pub answer: u8,
+    pub refusal: u8,
+}
+
+// What a step comes to beside the half that is lent.
+#[repr(C)]
+pub struct ZhavTold {
+    pub fuses: u8,
+    pub answer: u8,
+    pub refusal: u8,
+}
+
+// What a run comes to: both halves, how many steps were done, and the refusal, 0 if none.
+#[repr(C)]
+pub struct ZhavRan {
+    pub half: Volatile,
+    pub done: usize,
+    pub fuses: u8,
+    pub refusal: u8,
+}
+
+// The flags, 0 or 1 each, and the refusal, 0 if none; where refused, the flags are 0.
+#[repr(C)]
+pub struct ZhavFlags {
+    pub sv: u8,
+    pub p1: u8,
+    pub r1: u8,
+    pub e1: u8,
+    pub refusal: u8,
+}
+
+// The volatile half of a fresh card.
+#[no_mangle]
+pub extern "C" fn zhav_fresh() -> Volatile
+    ensures { λ r. ⌜ r ≡ packed fresh ⌝ }
+{
+    Volatile::fresh()
+}
+
+// One step.
+#[no_mangle]
+pub extern "C" fn zhav_step(image: &mut [u8], fuses: u8, v: Volatile, n: u8) -> ZhavStepped
+    ensures { λ r. ⌜ StepTold (now (image .entry)) fuses v n r (now (image .exit)) ⌝ }
+{
+    let s = card::step(image, fuses, v, n);
+    let half = s.volatile;
+    let told = s.answer;
+    match told {
+        Answer::Pin(pin) => ZhavStepped {
+            half: half,
+            fuses: s.fuses,
+            answer: pin,
+            refusal: 0,
+        },
+        Answer::Refused(refusal) => ZhavStepped {
+            half: half,
+            fuses: s.fuses,
+            answer: 1,
+            refusal: refusal,
+        },
+    }
+}
+
+// One step on a volatile half that is lent: what stands there afterwards is the half that the step hands back.
+#[no_mangle]
+pub extern "C" fn zhav_step_at(image: &mut [u8], fuses: u8, v: &mut Volatile, n: u8) -> ZhavTold
+    ensures { λ r. ⌜ StepToldAt (now (image .entry)) fuses (now (v .entry)) n r (now (v .exit)) (now (image .exit)) ⌝ }
+{
+    let s = zhav_step(image, fuses, *v, n);
+    *v = s.half;
+    ZhavTold {
+        fuses: s.fuses,
+        answer: s.answer,
+        refusal: s.refusal,
+    }
+}
+
+// A run over a list of steps, with one answer byte for each that is accepted.
+#[no_mangle]
+pub extern "C" fn zhav_run(
+    image: &mut [u8],
+    fuses: u8,
+    v: Volatile,
+    steps: &[u8],
+    answers: &mut [u8],
+) -> ZhavRan
+    ensures { λ r. ⌜ RunTold (now (image .entry)) fuses v (now (steps .entry)) (now (answers .entry)) r (now (image .exit)) (now (answers .exit)) ⌝ }
+{
+    let ran = card::run(image, fuses, v, steps, answers);
+    let half = ran.volatile;
+    ZhavRan {
+        half: half,
+        done: ran.done,
+        fuses: ran.fuses,
+        refusal: ran.refusal,
+    }
+}
+
+// SV, P1, R1 and E1, or 9.
+#[no_mangle]
+pub extern "C" fn zhav_flags(v: Volatile) -> ZhavFlags
+    ensures { λ r. ⌜ r ≡ flagBytes (flagsOf v) ⌝ }
+{
+    let told = card::flags(v);
+    match told {
+        FlagsAnswer::Held {
+            sv: sv,
+            p1: p1,
+            r1: r1,
+            e1: e1,
+        } => ZhavFlags {
+            sv: sv as u8,
+            p1: p1 as u8,
+            r1: r1 as u8,
+            e1: e1 as u8,
+            refusal: 0,
+        },
+        FlagsAnswer::Refused(number) => ZhavFlags {
+            sv: 0,
+            p1: 0,
+            r1: 0,
+            e1: 0,
+            refusal: number,
+        },
+    }
+}
+
+// The tries left.
+#[no_mangle]
+pub extern "C" fn zhav_tries_left(image: &[u8]) -> u32
+    ensures { λ r. ⌜ r ≡ triesLeft (now (image .entry)) ⌝ }
+{
+    card::tries_left(image)
+}
