@@ -1,0 +1,39 @@
+// Reads a session from standard input, runs it on a fresh card and prints `bad N` alone or the four lines.
+use file::Session;
+use report::Text;
+ghost use mathlib.Core.Path.{_≡_};
+ghost use Rattle.file.specs.Opening.{sessionNumber};
+ghost use Rattle.report.specs.Buffer.{Made};
+ghost use Rattle.session.specs.Answer.{sessionText};
+
+fn number(opened: Session) -> u8
+    ensures { λ r. ⌜ r ≡ sessionNumber opened ⌝ }
+{
+    let Session::Refused(k) = opened else {
+        return 0;
+    };
+    k
+}
+
+fn answer(session: &[u8], out: &mut [u8]) -> Text
+    ensures { λ r. ⌜ Made (sessionText (now (session .entry))) (now (out .entry)) r (now (out .exit)) ⌝ }
+{
+    let mut memory = [0u8; 174];
+    let opened = file::open_session(session, &mut memory);
+    let Session::Parts { fuses, steps } = opened else {
+        return report::bad(number(opened), out);
+    };
+    let section = file::step_section(session, 174);
+    fresh_run::report(&mut memory, fuses, section, steps, out)
+}
+
+// A session has at most 181 + 4096 bytes, so one more tells a longer input. 4,202 bytes hold every text.
+fn main() {
+    let mut input = [0u8; 4278];
+    let n = io::read_full(0, &mut input);
+    let mut out = [0u8; 4202];
+    let Text::Wrote(length) = answer(&input[..n], &mut out) else {
+        return;
+    };
+    io::write_all(1, &out[..length]);
+}
