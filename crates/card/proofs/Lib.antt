@@ -7,4 +7,5 @@ pub mod PlainMoves
 pub mod Loop
 pub mod NumberLaws
 pub mod Answers
-pub mod Checked
+pub mod AsDefined
+pub mod Determined

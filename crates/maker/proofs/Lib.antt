@@ -3,3 +3,4 @@ mod Acting
 mod Placing
 mod Lists
 mod Zeros
+mod Determined

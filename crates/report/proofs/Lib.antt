@@ -3,3 +3,4 @@ pub mod Reading
 pub mod Laws
 pub mod Lengths
 pub mod CaseS
+pub mod Determined

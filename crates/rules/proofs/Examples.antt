@@ -14,11 +14,13 @@ use Rattle.rules.specs.Halves.{Card, off}
 use Rattle.rules.specs.Zones.{between}
 use Rattle.rules.specs.Steps.{next}
 use Rattle.rules.specs.Refusals.{refusal, runRefusal}
-use Rattle.rules.specs.Card.{Ran, stepped, run, checkedRun}
+use Rattle.rules.specs.Card.{Ran, checkedStep, run, checkedRun}
 use Rattle.rules.specs.Computing.{the-card}
 use Rattle.rules.specs.Maker.{reset, walk, show, program, open-card}
 use Rattle.rules.specs.Demands.{hidden, Alike, freshCard, after, Unopened, UnopenedRun, NoTryLeft, Right, bitsFrom}
 use Rattle.rules.proofs.Tests.{all, below, below-then, and-left, and-right, beq-true, cond-cases}
+use Rattle.rules.proofs.Soundness.{sound-stays-sound}
+use Rattle.rules.proofs.CheckedSteps.{Passes, checked-step}
 use Rattle.rules.proofs.StepCases.{accepted}
 use Rattle.rules.proofs.ZoneCases.{within}
 
@@ -74,6 +76,7 @@ pub record Dead-card-moves : Type 0 where
   pub none-left : NoTryLeft dead 0
   pub right : Right 4626 dead
   pub matched : after dead visit .volatile .matched ≡ true
+  pub matched-in-a-run : checkedRun dead visit 220 .card .volatile .matched ≡ true
   pub shut : after dead visit .volatile .sv ≡ false
   pub was : bit (dead .memory) 104 ≡ true
   pub written : bit (after (after dead visit) further .memory) 104 ≡ false
@@ -81,32 +84,35 @@ pub record Dead-card-moves : Type 0 where
 -- SV is 0 before and after each step.
 unfoldable shutThroughout : Card → List ℕ → Bool
 shutThroughout c [] = not (c .volatile .sv)
-shutThroughout c (n ∷ ns) = not (c .volatile .sv) && shutThroughout (stepped c n) ns
+shutThroughout c (n ∷ ns) = not (c .volatile .sv) && shutThroughout (checkedStep c n) ns
 
 shut-unopened : (c : Card) (ns : List ℕ) → shutThroughout c ns ≡ true → Unopened c ns
 unfolding shutThroughout Unopened after
 shut-unopened c [] e zero = not-true (c .volatile .sv) e
 shut-unopened c [] e (suc k) = not-true (c .volatile .sv) e
 shut-unopened c (n ∷ ns) e zero = not-true (c .volatile .sv) (and-left _ _ e)
-shut-unopened c (n ∷ ns) e (suc k) = shut-unopened (stepped c n) ns (and-right (not (c .volatile .sv)) _ e) k
+shut-unopened c (n ∷ ns) e (suc k) = shut-unopened (checkedStep c n) ns (and-right (not (c .volatile .sv)) _ e) k
 
-shut-run : (c : Card) (ns : List ℕ) → shutThroughout c ns ≡ true → (k : ℕ) → run c (take k ns) .card .volatile .sv ≡ false
+shut-run :
+    (c : Card) (ns : List ℕ) → Passes c → shutThroughout c ns ≡ true → (k : ℕ) → run c (take k ns) .card .volatile .sv ≡ false
 unfolding shutThroughout run
-shut-run c [] e zero = not-true (c .volatile .sv) e
-shut-run c [] e (suc k) = not-true (c .volatile .sv) e
-shut-run c (n ∷ ns) e zero = not-true (c .volatile .sv) (and-left _ _ e)
-shut-run c (n ∷ ns) e (suc k) =
+shut-run c [] p e zero = not-true (c .volatile .sv) e
+shut-run c [] p e (suc k) = not-true (c .volatile .sv) e
+shut-run c (n ∷ ns) p e zero = not-true (c .volatile .sv) (and-left _ _ e)
+shut-run c (n ∷ ns) p e (suc k) =
     cond-cases (λ (r : Ran). r .card .volatile .sv ≡ false) (eqb (refusal (c .volatile) n) 0)
     (λ t.
-    let go = rw (accepted c n (eqb-true (refusal (c .volatile) n) 0 t)) at (and-right (not (c .volatile .sv)) _ e) in
-    shut-run (next c n) ns go k)
+    let taken = eqb-true (refusal (c .volatile) n) 0 t in
+    let later = rw (checked-step c n p, accepted c n taken) at (and-right (not (c .volatile .sv)) _ e) in
+    shut-run (next c n) ns (sound-stays-sound c n p taken) later k)
     (λ _. not-true (c .volatile .sv) (and-left _ _ e))
 
-shut-unopened-run : (c : Card) (ns : List ℕ) (room : ℕ) → shutThroughout c ns ≡ true → UnopenedRun c ns room
+shut-unopened-run : (c : Card) (ns : List ℕ) (room : ℕ) → Passes c → shutThroughout c ns ≡ true → UnopenedRun c ns room
 unfolding UnopenedRun checkedRun
-shut-unopened-run c ns room e k =
+shut-unopened-run c ns room p e k =
     cond-cases (λ (r : Ran). r .card .volatile .sv ≡ false)
-    (eqb (runRefusal (c .memory) (c .fuses) (c .volatile) (length (take k ns)) room) 0) (λ _. shut-run c ns e k) (λ _. shut-run c ns e 0)
+    (eqb (runRefusal (c .memory) (c .fuses) (c .volatile) (length (take k ns)) room) 0) (λ _. shut-run c ns p e k)
+    (λ _. shut-run c ns p e 0)
 
 -- Neither card opens before the last step.
 one-shut : shutThroughout (freshCard one 7) (before 4626) ≡ true
@@ -143,8 +149,8 @@ pub told-apart-in-a-run : Told-apart-in-a-run
 unfolding the-card open-card
 told-apart-in-a-run =
     record {
-      unopened = shut-unopened-run (freshCard one 7) (before 4626) 220 one-shut;
-      unopened′ = shut-unopened-run (freshCard other 7) (before 4626) 220 other-shut;
+      unopened = shut-unopened-run (freshCard one 7) (before 4626) 220 refl one-shut;
+      unopened′ = shut-unopened-run (freshCard other 7) (before 4626) 220 refl other-shut;
       opens = refl;
       stays = refl;
     }
@@ -163,6 +169,7 @@ dead-card-moves =
           record { sized = refl; fused = lit≤ tt; off = refl; unpowered = refl; sound = refl; spent = spent };
       right = refl;
       matched = refl;
+      matched-in-a-run = refl;
       shut = refl;
       was = refl;
       written = refl;

@@ -12,12 +12,13 @@ use Rattle.rules.specs.declared.Answer.the-variants.{Pin}
 use Rattle.rules.specs.Halves.{Volatile, Card, off, fresh}
 use Rattle.rules.specs.Steps.{next, pin}
 use Rattle.rules.specs.Refusals.{refusal, stateRefusal, runRefusal, longest}
-use Rattle.rules.specs.Card.{Ran, stepped, answered, run, checkedRun}
+use Rattle.rules.specs.Card.{Ran, stepped, answered, checkedStep, run, checkedRun}
 use Rattle.rules.specs.Demands.{Alike, freshCard, after, answers, Unopened, ZonesKept, Hidden-before-opening}
 use Rattle.rules.specs.Demands.{UnopenedRun, Hidden-in-a-run}
 use Rattle.rules.proofs.Tests.{peel}
 use Rattle.rules.proofs.StepCases.{Way}
 use Rattle.rules.proofs.StepCases.{moved, way, step-cases, same-way, same-refusal, accepted}
+use Rattle.rules.proofs.CheckedSteps.{Passes, fresh-passes, passes-on, checked-step, checked-answer}
 use Rattle.rules.proofs.AlikeCards.{Closed, Alike-cards, Unopened-card, closed-moved, alike-moved, cond-both, same-pin}
 
 -- No run of a part of the list opens the card.
@@ -30,6 +31,8 @@ unopened-tail c n ns e u k = rw e at (u (suc k))
 
 module _ (m m′ : List ℕ) (start : Alike m m′) where
   record Two (c c′ : Card) : Type 0 where
+    passes : Passes c
+    passes′ : Passes c′
     closed : Closed m c
     closed′ : Closed m′ c′
     alike : Alike-cards c c′
@@ -37,15 +40,18 @@ module _ (m m′ : List ℕ) (start : Alike m m′) where
   two-stepped :
       (c c′ : Card) (n : ℕ) → Unopened-card c → Unopened-card c′ → Two c c′ → Two (stepped c n) (stepped c′ n)
   two-stepped c c′ n shut shut′ p =
-      step-cases (λ (x : Card). Two x (stepped c′ n)) c n
-      (step-cases (λ (x : Card). Two (moved w n c) x) c′ n
-      (subst (λ (u : Way). Two (moved w n c) (moved u n c′))
-      (same-way (c .volatile) (c′ .volatile) n (p .alike .lines) (p .alike .programming))
-      (record {
-        closed = closed-moved m (start .unreadable) c n shut (p .closed) w;
-        closed′ = closed-moved m′ (start .unreadable′) c′ n shut′ (p .closed′) w;
-        alike = alike-moved c c′ shut shut′ (p .alike) n w;
-      })))
+      record {
+        passes = passes-on c n (p .passes);
+        passes′ = passes-on c′ n (p .passes′);
+        closed = step-cases (Closed m) c n (closed-moved m (start .unreadable) c n shut (p .closed) (way (c .volatile) n));
+        closed′ = step-cases (Closed m′) c′ n (closed-moved m′ (start .unreadable′) c′ n shut′ (p .closed′) (way (c′ .volatile) n));
+        alike =
+            step-cases (λ (x : Card). Alike-cards x (stepped c′ n)) c n
+            (step-cases (λ (x : Card). Alike-cards (moved w n c) x) c′ n
+            (subst (λ (u : Way). Alike-cards (moved w n c) (moved u n c′))
+            (same-way (c .volatile) (c′ .volatile) n (p .alike .lines) (p .alike .programming))
+            (alike-moved c c′ shut shut′ (p .alike) n w)));
+      }
     where
       w : Way
       w = way (c .volatile) n
@@ -87,9 +93,18 @@ module _ (m m′ : List ℕ) (start : Alike m m′) where
   unfolding Unopened answers after
   indistinct c c′ [] p u u′ = record { same = refl; kept = p .closed .zones; kept′ = p .closed′ .zones }
   indistinct c c′ (n ∷ ns) p u u′ =
-      let rest = indistinct (stepped c n) (stepped c′ n) ns (two-stepped c c′ n (u 0) (u′ 0) p) (λ k. u (suc k)) (λ k. u′ (suc k)) in
+      let s = checked-step c n (p .passes) in
+      let s′ = checked-step c′ n (p .passes′) in
+      let two = rw (← s, ← s′) at (two-stepped c c′ n (u 0) (u′ 0) p) in
+      let rest = indistinct (checkedStep c n) (checkedStep c′ n) ns two (λ k. u (suc k)) (λ k. u′ (suc k)) in
       record {
-        same = cc (same-answer c c′ n p (u 0) (u′ 0) (u 1) (u′ 1), rest .same);
+        same =
+            cc (
+              checked-answer c n (p .passes),
+              checked-answer c′ n (p .passes′),
+              same-answer c c′ n p (u 0) (u′ 0) (rw s at (u 1)) (rw s′ at (u′ 1)),
+              rest .same,
+            );
         kept = rest .kept;
         kept′ = rest .kept′;
       }
@@ -120,10 +135,12 @@ module _ (m m′ : List ℕ) (start : Alike m m′) where
       (λ _. record { same = refl; refused = refl; kept = p .closed .zones; kept′ = p .closed′ .zones }))
 
   -- "switched off with all lines low"
-  fresh-two : (fuses : ℕ) → Two (freshCard m fuses) (freshCard m′ fuses)
+  fresh-two : (fuses : ℕ) → fuses ≤ 7 → Two (freshCard m fuses) (freshCard m′ fuses)
   unfolding fresh off
-  fresh-two fuses =
+  fresh-two fuses fused =
       record {
+        passes = fresh-passes m fuses (start .sized) fused;
+        passes′ = fresh-passes m′ fuses (start .sized′) fused;
         closed = record { unread = refl; zones = λ a h. refl };
         closed′ = record { unread = refl; zones = λ a h. refl };
         alike =
@@ -140,7 +157,7 @@ module _ (m m′ : List ℕ) (start : Alike m m′) where
 
 pub hidden-before-opening : Hidden-before-opening
 hidden-before-opening m m′ fuses ns start bound u u′ =
-    let r = indistinct m m′ start (freshCard m fuses) (freshCard m′ fuses) ns (fresh-two m m′ start fuses) u u′ in
+    let r = indistinct m m′ start (freshCard m fuses) (freshCard m′ fuses) ns (fresh-two m m′ start fuses bound) u u′ in
     record { same = r .same; kept = r .kept; kept′ = r .kept′ }
 
 -- What refuses no run of k steps refuses none of fewer.
@@ -193,6 +210,6 @@ hidden-in-a-run m m′ fuses ns room start bound u u′ =
         (cond-both (Indistinct-runs m m′ start) (eqb (runRefusal m fuses fresh (length ns) room) 0)
         (λ t.
         let e = eqb-true (runRefusal m fuses fresh (length ns) room) 0 t in
-        indistinct-runs m m′ start c c′ ns (fresh-two m m′ start fuses) (unopened-run c ns room e u)
+        indistinct-runs m m′ start c c′ ns (fresh-two m m′ start fuses bound) (unopened-run c ns room e u)
         (unopened-run c′ ns room (sym alike ∙ e) u′))
         (λ _. record { same = refl; refused = refl; kept = λ a h. refl; kept′ = λ a h. refl }))

@@ -1,5 +1,7 @@
 pub mod Tests
+pub mod Stopping
 pub mod Soundness
+pub mod CheckedSteps
 pub mod CodeMatch
 pub mod Macros
 pub mod Counter
@@ -13,6 +15,7 @@ pub mod Shut
 pub mod AlikeCards
 pub mod Hidden
 pub mod Examples
-pub mod CheckedSteps
+pub mod StepExamples
+pub mod Demands
 pub mod Cases
 pub mod DataSheet

@@ -16,7 +16,7 @@ use Rattle.rules.specs.Zones.{between}
 use Rattle.rules.specs.Refusals.{madeUp, stateRefusal, runRefusal}
 use Rattle.rules.specs.Card.{checkedRun}
 use Rattle.rules.specs.Maker.{idle, reset, walk, digits, showBits, program, zerosBefore, open-card, actRefusal, openRefusal}
-use Rattle.rules.specs.Demands.{Idle, attempts, firstTry, shown, Right-code-opens, Wrong-code-spends-one-try}
+use Rattle.rules.specs.Demands.{Idle, attempts, firstTry, shown, Right-code-opens, Wrong-code-spends-one-try, Opens-as-made}
 use Rattle.rules.proofs.CodeMatch.{shownMatch, right-matches, wrong-fails}
 use Rattle.rules.proofs.MakerLaws.{length-open}
 use Rattle.rules.proofs.Macros.{Leads, then, Reaches, leads-run, on, ready, resets, walks, shows}
@@ -131,10 +131,9 @@ wrong-code-spends-one-try fus code c i left wrong =
       fuses = ap (λ (x : Card). x .fuses) (r .card);
     }
 
--- With room for the steps and their answers, the maker gives them and none of 10, 14, 9, 18 and 19 comes: the theorems above are about
--- what maker and run answer.
+-- With room for the steps and their answers, the maker gives them and none of 10, 14, 9, 18 and 19 comes.
 module _ (fus : Bool) (code : ℕ) (c : Card) (left : firstTry c < 104) (room : ℕ) (enough : 223 + 2 * zerosBefore 8 (attempts c) ≤ room) where
-  pub makes-opening : actRefusal (openRefusal (attempts c)) (open-card fus code (attempts c)) room ≡ 0
+  makes-opening : actRefusal (openRefusal (attempts c)) (open-card fus code (attempts c)) room ≡ 0
   unfolding actRefusal openRefusal
   makes-opening =
       rw (
@@ -143,7 +142,7 @@ module _ (fus : Bool) (code : ℕ) (c : Card) (left : firstTry c < 104) (room : 
         le-ltb room (223 + 2 * zerosBefore 8 (attempts c)) enough,
       )
 
-  pub runs-opening : Idle fus c → checkedRun c (open-card fus code (attempts c)) room ≡ shown fus code c
+  runs-opening : Idle fus c → checkedRun c (open-card fus code (attempts c)) room ≡ shown fus code c
   unfolding checkedRun runRefusal stateRefusal
   runs-opening i =
       rw (
@@ -154,3 +153,6 @@ module _ (fus : Bool) (code : ℕ) (c : Card) (left : firstTry c < 104) (room : 
         le-ltb 4096 (223 + 2 * zerosBefore 8 (attempts c)) (omega arith),
         le-ltb room (223 + 2 * zerosBefore 8 (attempts c)) enough,
       )
+
+pub opens-as-made : Opens-as-made
+opens-as-made fus code c room i left enough = (makes-opening fus code c left room enough, runs-opening fus code c left room enough i)

@@ -1,5 +1,5 @@
 -- A card that demand 2 speaks of, and what it says of it with the right code and with a wrong one.
-use Prim.Native.Nat.{ℕ, _≤_, _<_}
+use Prim.Native.Nat.{ℕ, _+_, _*_, _≤_, _<_}
 use native.Mathlib.Omega.{arith}
 use mathlib.Core.Path.{_≡_, refl, ap}
 use mathlib.Core.Bool.{Bool, true, false, true≢false}
@@ -7,9 +7,10 @@ use mathlib.Core.List.{List, _∷_, _++_}
 use lib.ListN.{getD, replicate}
 use Rattle.rules.specs.Halves.{Card}
 use Rattle.rules.specs.Computing.{the-card}
-use Rattle.rules.specs.Maker.{idle, digits, zerosBefore}
-use Rattle.rules.specs.Demands.{Idle, firstTry, bitsFrom, Right, shown}
-use Rattle.rules.proofs.Opening.{right-code-opens, wrong-code-spends-one-try}
+use Rattle.rules.specs.Card.{checkedRun}
+use Rattle.rules.specs.Maker.{idle, digits, zerosBefore, open-card, actRefusal, openRefusal}
+use Rattle.rules.specs.Demands.{Idle, attempts, firstTry, bitsFrom, Right, shown}
+use Rattle.rules.proofs.Opening.{right-code-opens, wrong-code-spends-one-try, opens-as-made}
 
 -- The code 0x1234 in bits 80 to 95, and a byte of bits 96 to 103; all other bits but the first are ones.
 abbrev image : ℕ → List ℕ
@@ -91,3 +92,19 @@ both-levels =
       wrong-issued = wrong-code 3 (omega arith);
       wrong-unissued = wrong-code 7 (omega arith);
     }
+
+-- The maker's buffer and the answers with room for 223 + 2 * 3, and the maker's with one byte less.
+pub record Room-for-229 (fus : Bool) : Type 0 where
+  pub made : actRefusal (openRefusal 0b0001_1111) (open-card fus 0x1234 0b0001_1111) 229 ≡ 0
+  pub short : actRefusal (openRefusal 0b0001_1111) (open-card fus 0x1234 0b0001_1111) 228 ≡ 22
+  pub ran : checkedRun (card fus 7) (open-card fus 0x1234 0b0001_1111) 229 .card .volatile .sv ≡ true
+
+room-of : (fus : Bool) → 223 + 2 * zerosBefore 8 (attempts (card fus 7)) ≤ 229
+unfolding zerosBefore the-card
+room-of fus = omega arith
+
+pub room-for-229 : (fus : Bool) → Room-for-229 fus
+unfolding zerosBefore the-card open-card actRefusal openRefusal
+room-for-229 fus =
+    let as-made = opens-as-made fus 0x1234 (card fus 7) 229 (is-idle fus 7 (omega arith)) (try-left fus 7) (room-of fus) in
+    record { made = as-made .0; short = refl; ran = rw (as-made .1) (right-code 7 (omega arith) fus .sv) }

@@ -11,8 +11,8 @@ use Rattle.rules.specs.Lines.{VCC, RST, CLK, PGM, IO, FUS, high, Edge, S
 use Rattle.rules.specs.Rights.{held}
 use Rattle.rules.specs.Programming.{operation}
 use Rattle.rules.specs.Steps.{follows, withVolatile, vccFalls, clkRises, rstFalls, programmed, unlatched, clocked, clkFalls, powered, next}
-use Rattle.rules.specs.Refusals.{refusal}
-use Rattle.rules.specs.Card.{Ran, stepped, run}
+use Rattle.rules.specs.Refusals.{refusal, stateRefusal}
+use Rattle.rules.specs.Card.{Ran, stepped, checkedStep, run}
 use Rattle.rules.specs.Demands.{after}
 use Rattle.rules.proofs.Tests.{cond-cases}
 
@@ -122,10 +122,14 @@ accepted c n e = rw e
 
 -- What every step keeps, every list of steps and every run keep.
 module _ (P : Card → Type 0) (step : (c : Card) (n : ℕ) → P c → P (stepped c n)) where
+  checked-keeps : (c : Card) (n : ℕ) → P c → P (checkedStep c n)
+  unfolding checkedStep
+  checked-keeps c n p = cond-cases P (eqb (stateRefusal (c .memory) (c .fuses) (c .volatile)) 0) (λ _. step c n p) (λ _. p)
+
   pub after-keeps : (c : Card) (ns : List ℕ) → P c → P (after c ns)
   unfolding after
   after-keeps c [] p = p
-  after-keeps c (n ∷ ns) p = after-keeps (stepped c n) ns (step c n p)
+  after-keeps c (n ∷ ns) p = after-keeps (checkedStep c n) ns (checked-keeps c n p)
 
   pub run-keeps : (c : Card) (ns : List ℕ) → P c → P (run c ns .card)
   unfolding run

@@ -1,21 +1,45 @@
--- The state check's promise and the user's demands 2 and 3, as statements about the definitions that the contracts of step, run and maker cite. The module
--- `proofs.Demands` proves each under its own name.
-use Prim.Native.Nat.{ℕ, zero, suc, _+_, _<_, _≤_}
+-- The user's demands as statements about the definitions that the contracts of step, run and maker cite. The module `proofs.Demands`
+-- proves each under its own name.
+use Prim.Native.Nat.{ℕ, zero, suc, _+_, _*_, _<_, _≤_}
 use mathlib.Core.Path.{_≡_}
-use mathlib.Core.Bool.{Bool, true, false, _||_}
+use mathlib.Core.Bool.{Bool, true, false, cond, _||_}
 use mathlib.Core.List.{List, [], _∷_}
+use lib.Dec.{eqb}
 use lib.ListN.{length, getD, take}
 use Rattle.memory.specs.Image.{bytes, bit, written, erasedWord}
 use Rattle.rules.specs.declared.Answer.{Answer}
 use Rattle.rules.specs.Halves.{Card, off, fresh}
 use Rattle.rules.specs.Lines.{VCC, high}
 use Rattle.rules.specs.Zones.{between}
-use Rattle.rules.specs.Refusals.{refusal, madeUp, stateRefusal}
+use Rattle.rules.specs.Refusals.{refusal, madeUp, stateRefusal, runRefusal}
 use Rattle.rules.specs.Steps.{next}
-use Rattle.rules.specs.Card.{Ran, stepped, answered, run, checkedRun}
-use Rattle.rules.specs.Maker.{idle, digits, zerosBefore, open-card}
+use Rattle.rules.specs.Card.{numberOf, Ran, checkedStep, checkedAnswer, run, checkedRun}
+use Rattle.rules.specs.Maker.{idle, digits, zerosBefore, open-card, actRefusal, openRefusal}
 
--- 01: "A state that 9 lets pass never leads to one that 9 refuses." With it, an image of 174 bytes and a fuse byte up to 7 stay so.
+-- Demand 1: "A waveform without a meaning is refused by its number in document 01; card, lines and lent buffers then hold what they held
+-- after the last accepted step."
+
+abbrev pub Refused-step-keeps-all : Type 0
+Refused-step-keeps-all = (c : Card) (n : ℕ) → (numberOf (checkedAnswer c n) ≡ 0 → ⊥) → checkedStep c n ≡ c
+
+-- The steps that were done.
+abbrev pub done : Ran → ℕ
+done r = length (r .answers)
+
+-- What a run of ns from c comes to, k being the number that it gets before any step. The answers are all that it writes into the buffer.
+pub record Stops (c : Card) (ns : List ℕ) (k : ℕ) (r : Ran) : Type 0 where
+  pub before : run c (take (done r) ns) ≡ record { card = r .card; answers = r .answers; refused = 0 }
+  pub number : (r .refused ≡ 0 → ⊥) → r .refused ≡ cond (eqb k 0) (refusal (r .card .volatile) (getD ns (done r) 0)) k
+  pub all : r .refused ≡ 0 → done r ≡ length ns
+
+abbrev pub Run-stops-at-a-refusal : Type 0
+Run-stops-at-a-refusal =
+    (c : Card) (ns : List ℕ) (room : ℕ) →
+    Stops c ns (runRefusal (c .memory) (c .fuses) (c .volatile) (length ns) room) (checkedRun c ns room)
+
+-- Demand 2: "After each accepted step the pin, the flags, the fuses and the memory are those of the data sheet, source document 004, as 01
+-- settles it." The contracts of step and run say so. 01 adds: "A state that 9 lets pass never leads to one that 9 refuses." With it, an
+-- image of 174 bytes and a fuse byte up to 7 stay so.
 abbrev pub Sound-stays-sound : Type 0
 Sound-stays-sound =
     (c : Card) (n : ℕ) → stateRefusal (c .memory) (c .fuses) (c .volatile) ≡ 0 → refusal (c .volatile) n ≡ 0 →
@@ -79,6 +103,14 @@ abbrev pub Wrong-code-spends-one-try : Type 0
 Wrong-code-spends-one-try =
     (fus : Bool) (code : ℕ) (c : Card) → Idle fus c → firstTry c < 104 → (Right code c → ⊥) → Spent c (shown fus code c)
 
+-- The steps shown are the ones that the maker gives, and that a run takes: neither refuses them where there is room for 223 + 2k.
+abbrev pub Opens-as-made : Type 0
+Opens-as-made =
+    (fus : Bool) (code : ℕ) (c : Card) (room : ℕ) → Idle fus c → firstTry c < 104 →
+    223 + 2 * zerosBefore 8 (attempts c) ≤ room →
+    (actRefusal (openRefusal (attempts c)) (open-card fus code (attempts c)) room ≡ 0) ×
+    (checkedRun c (open-card fus code (attempts c)) room ≡ shown fus code c)
+
 -- Demand 3: "Take two cards, switched off with all lines low, alike in fuses and in every bit outside the security code, the erase key
 -- and the application zone, bit 177 being zero in both. Give both the same steps. Before the step at which either opens, their pin
 -- answers and refusals are equal and those three zones keep every bit."
@@ -101,12 +133,12 @@ freshCard m fuses = record { memory = m; fuses = fuses; volatile = fresh }
 -- The card after a list of steps. A refused step changes nothing, and the next one is tried.
 unfoldable pub after : Card → List ℕ → Card
 after c [] = c
-after c (n ∷ ns) = after (stepped c n) ns
+after c (n ∷ ns) = after (checkedStep c n) ns
 
 -- What each of the steps got: the pin's answer or the refusal.
 unfoldable pub answers : Card → List ℕ → List Answer
 answers c [] = []
-answers c (n ∷ ns) = answered c n ∷ answers (stepped c n) ns
+answers c (n ∷ ns) = checkedAnswer c n ∷ answers (checkedStep c n) ns
 
 -- The card has not opened by the end of any part of the list: the list is one before the step at which it opens.
 unfoldable pub Unopened : Card → List ℕ → Type 0

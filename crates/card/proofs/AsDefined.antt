@@ -10,14 +10,14 @@ use borrow.Author.Tests.{le-ltb}
 use Rattle.rules.specs.Refusals.{stateRefusal, before-a-run, runRefusal}
 use Rattle.rules.specs.declared.Answer.the-variants.{Refused}
 use Rattle.rules.specs.Halves.{Card}
-use Rattle.rules.specs.Card.{ended, stepped, answered, run, checkedStep, checkedAnswer, checkedRun}
+use Rattle.rules.specs.Card.{ended, stepped, answered, run, answersIn, checkedStep, checkedAnswer, checkedRun}
 use Rattle.volatile.specs.declared.Volatile.{Volatile}
 use Rattle.volatile.specs.Packed.{packed, unpacked, cardOf, madeUpWord}
 use Rattle.volatile.proofs.Packing.{packed-unpacked}
 use Rattle.card.specs.declared.Ran.{Ran}
 use Rattle.card.specs.declared.Stepped.{Stepped}
 use Rattle.card.specs.Moves.{ranTo}
-use Rattle.card.specs.Contracts.{stateNumber, stepAnswer, runNumber, ranOn, runAnswer, runMemory}
+use Rattle.card.specs.Contracts.{stateNumber, stepAnswer, stepMemory, runNumber, ranOn, runAnswer, runMemory, runAnswers}
 
 module _ (m : List ℕ) (fuses : ℕ) (v : Volatile) (word : v .flags ≤ 127) where
   same-numbers : stateNumber m fuses v ≡ stateRefusal m fuses (unpacked v)
@@ -61,8 +61,32 @@ module _ (m : List ℕ) (fuses : ℕ) (v : Volatile) (word : v .flags ≤ 127) w
         go true = refl
         go false = refl
 
+    pub run-answers-are-checked :
+        (answers : List ℕ) → length answers ≡ room →
+        runAnswers m fuses v steps answers ≡ answersIn (checkedRun card steps room .answers) answers
+    unfolding runAnswers ranOn checkedRun answersIn
+    run-answers-are-checked answers e = rw (e, run-numbers) (go (eqb (runRefusal m fuses (unpacked v) (length steps) room) 0))
+      where
+        k : ℕ
+        k = runRefusal m fuses (unpacked v) (length steps) room
+
+        go :
+            (t : Bool) →
+            cond t (answersIn (run card steps .answers) answers) answers ≡
+            answersIn (cond t (run card steps) (ended card k) .answers) answers
+        go true = refl
+        go false = refl
+
   -- The same of a step.
   module _ (n : ℕ) where
+    pub step-memory-is-checked : stepMemory m fuses v n ≡ checkedStep card n .memory
+    unfolding stepMemory checkedStep
+    step-memory-is-checked = rw same-numbers (go (eqb (stateRefusal m fuses (unpacked v)) 0))
+      where
+        go : (t : Bool) → cond t (stepped card n .memory) m ≡ cond t (stepped card n) card .memory
+        go true = refl
+        go false = refl
+
     pub step-is-checked :
         stepAnswer m fuses v n ≡
         record {

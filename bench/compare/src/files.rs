@@ -1,0 +1,232 @@
+//! Card files and sessions, sound and damaged, on both sides.
+
+use crate::chance::Chance;
+use crate::found::Found;
+use crate::reached::{Event, Reached};
+use crate::steps::{self, Differs};
+use crate::waveform::{self, Case};
+use std::fmt::Write;
+
+const UNTOUCHED: u8 = 165;
+
+fn card_file(memory: &[u8], fuses: u8) -> Vec<u8> {
+    let mut bytes = vec![174, 0];
+    bytes.extend(memory);
+    bytes.extend([1, 0, fuses]);
+    bytes
+}
+
+fn session_of(case: &Case) -> Vec<u8> {
+    let mut bytes = card_file(&case.memory, case.fuses);
+    bytes.extend((case.steps.len() as u16).to_le_bytes());
+    bytes.extend(&case.steps);
+    bytes
+}
+
+/// A session of what a reader does, of at most so many steps.
+pub fn session(chance: &mut Chance, most: usize) -> Vec<u8> {
+    session_of(&waveform::reader(chance, true, most))
+}
+
+/// Up to two faults, among counts, fuse byte and length.
+pub fn damage(chance: &mut Chance, bytes: &mut Vec<u8>) {
+    for _ in 0..chance.within(1, 2) {
+        match chance.below(5) {
+            0 => {
+                let length = match chance.below(3) {
+                    0 => chance.below(182),
+                    1 => chance.within(176, 183),
+                    _ => bytes.len().saturating_sub(chance.within(1, 3)),
+                };
+                bytes.truncate(length);
+            }
+            1 => bytes.extend((0..chance.within(1, 3)).map(|_| 16)),
+            _ => {
+                let at = chance.pick(&[0, 1, 176, 177, 178, 178, 179, 180, 180]);
+                if let Some(byte) = bytes.get_mut(at) {
+                    *byte = match chance.below(3) {
+                        0 => chance.byte(),
+                        1 => byte.wrapping_add(1),
+                        _ => *byte ^ 1 << chance.below(8),
+                    };
+                }
+            }
+        }
+    }
+}
+
+/// A session whose count of steps is about 4,096.
+fn long_session(chance: &mut Chance) -> Vec<u8> {
+    let mut bytes = card_file(&waveform::any_memory(chance), waveform::any_fuses(chance));
+    let count = chance.within(4094, 4098);
+    bytes.extend((count as u16).to_le_bytes());
+    let steps = if chance.one_in(3) { count + 1 } else { count };
+    bytes.resize(bytes.len() + steps, 16);
+    bytes
+}
+
+fn any_file(chance: &mut Chance) -> Vec<u8> {
+    let mut bytes = match chance.below(8) {
+        0 | 1 => card_file(&waveform::any_memory(chance), waveform::any_fuses(chance)),
+        2 => long_session(chance),
+        3 => (0..chance.below(400)).map(|_| chance.byte()).collect(),
+        _ => {
+            let most = chance.pick(&[0, 1, 300, 600]);
+            session(chance, most)
+        }
+    };
+    if chance.one_in(2) {
+        damage(chance, &mut bytes);
+    }
+    bytes
+}
+
+/// The session program's text, by the library's calls.
+fn text_by_card(bytes: &[u8]) -> Vec<u8> {
+    let mut image = [0; zhavdurgon::IMAGE_BYTES];
+    let session = match zhavdurgon::open_session(bytes, &mut image) {
+        Ok(session) => session,
+        Err(number) => return format!("bad {number}\n").into_bytes(),
+    };
+    let mut answers = vec![0; session.steps.len()];
+    let ran = zhavdurgon::run(
+        &mut image,
+        session.fuses,
+        zhavdurgon::Volatile::fresh(),
+        session.steps,
+        &mut answers,
+    );
+    let mut text = format!("done {} of {}\n", ran.done, session.steps.len());
+    let _ = writeln!(text, "refused {}", ran.refusal);
+    text.extend(
+        answers[..ran.done]
+            .iter()
+            .map(|&answer| char::from(b'0' + answer)),
+    );
+    let _ = write!(text, "\nleft {}\n", zhavdurgon::tries_left(&image));
+    text.into_bytes()
+}
+
+/// Whether the texts of a session differ.
+pub fn text(case: &Case) -> Option<Differs> {
+    let bytes = session_of(case);
+    let (text, expected) = (text_by_card(&bytes), model::session(&bytes));
+    (text != expected).then(|| Differs {
+        at: case.steps.len(),
+        text: format!(
+            "card:\n{}model:\n{}",
+            String::from_utf8_lossy(&text),
+            String::from_utf8_lossy(&expected)
+        ),
+    })
+}
+
+/// What a session holds, if it can be opened at all.
+fn case_of(bytes: &[u8]) -> Option<Case> {
+    let mut memory = vec![0; zhavdurgon::IMAGE_BYTES];
+    let session = zhavdurgon::open_session(bytes, &mut memory).ok()?;
+    Some(Case {
+        memory,
+        fuses: session.fuses,
+        start: zhavdurgon::Volatile::fresh(),
+        steps: session.steps.to_vec(),
+    })
+}
+
+/// What a session reaches, up to its first refused step.
+pub fn note_session(bytes: &[u8], reached: &mut Reached) {
+    let mut memory = [0; zhavdurgon::IMAGE_BYTES];
+    match zhavdurgon::open_session(bytes, &mut memory) {
+        Err(number) => note(reached, number),
+        Ok(_) => reached.note(Event::SessionFile),
+    }
+    if let Some(mut case) = case_of(bytes) {
+        let mut answers = vec![0; case.steps.len()];
+        let ran = zhavdurgon::run(
+            &mut memory,
+            case.fuses,
+            case.start,
+            &case.steps,
+            &mut answers,
+        );
+        case.steps.truncate(ran.done + 1);
+        steps::single_steps(&case, Some(reached));
+    }
+}
+
+fn note(reached: &mut Reached, number: u8) {
+    use Event::*;
+    reached.note(match number {
+        10 => File10,
+        11 => File11,
+        12 => File12,
+        13 => File13,
+        14 => File14,
+        15 => File15,
+        16 => File16,
+        _ => File17,
+    });
+}
+
+/// One file through both openers, and its text: the answers, the steps as a part
+/// of the file and every byte of the lent buffer.
+pub fn file(chance: &mut Chance, reached: &mut Reached) -> Option<Found> {
+    let bytes = any_file(chance);
+    let room = if chance.one_in(8) {
+        chance.pick(&[0, 1, 173, 175, 348])
+    } else {
+        174
+    };
+    let untouched = vec![UNTOUCHED; room];
+
+    let (mut image, mut model_image) = (untouched.clone(), untouched.clone());
+    let card = zhavdurgon::open_card(&bytes, &mut image);
+    let expected = model::open_card_file(&bytes, &mut model_image);
+    if card != expected || image != model_image {
+        return Some(Found::Other(format!(
+            "a card file of {} bytes, room for {room}: card {card:?}, model {expected:?}\n{bytes:?}",
+            bytes.len(),
+        )));
+    }
+
+    let (mut image, mut model_image) = (untouched.clone(), untouched);
+    let session = zhavdurgon::open_session(&bytes, &mut image);
+    let expected_session = model::open_session(&bytes, &mut model_image);
+    let section = model::step_section(&bytes);
+    let same = match (session, expected_session) {
+        (Ok(session), Ok((fuses, count))) => {
+            session.fuses == fuses
+                && session.steps.len() == count
+                && session.steps.as_ptr_range() == section.as_ptr_range()
+        }
+        (Err(number), Err(expected)) => number == expected,
+        _ => false,
+    };
+    if !same || image != model_image {
+        return Some(Found::Other(format!(
+            "a session of {} bytes, room for {room}: card {session:?}, model {expected_session:?}\n\
+             {bytes:?}",
+            bytes.len(),
+        )));
+    }
+
+    if text_by_card(&bytes) != model::session(&bytes) {
+        let case = case_of(&bytes);
+        let differs = case.as_ref().and_then(text);
+        return Some(match (case, differs) {
+            (Some(case), Some(differs)) => Found::Text { case, differs },
+            _ => Found::Other(format!("the text of a session: {bytes:?}")),
+        });
+    }
+
+    match card {
+        Ok(_) => reached.note(Event::CardFile),
+        Err(number) => note(reached, number),
+    }
+    match session {
+        Ok(_) => reached.note(Event::SessionFile),
+        Err(number) => note(reached, number),
+    }
+    reached.note(Event::Text);
+    None
+}
