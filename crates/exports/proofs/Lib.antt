@@ -1,1 +1,2 @@
+mod Determined
 mod Shown

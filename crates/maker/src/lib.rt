@@ -17,6 +17,16 @@ pub enum Made {
     Refused(u8),
 }
 
+// Steps that no act makes, as they are.
+pub fn raw(steps: &[u8], out: &mut [u8]) -> Made
+    ensures { λ r. ⌜ Acted 0 (now (steps .entry)) (now (out .entry)) r (now (out .exit)) ⌝ }
+{
+    if out.len() < steps.len() {
+        return Made::Refused(22);
+    }
+    Made::Wrote(parts::place(steps, out, 0))
+}
+
 pub fn reset(fus: bool, out: &mut [u8]) -> Made
     ensures { λ r. ⌜ Acted 0 (resetSteps fus) (now (out .entry)) r (now (out .exit)) ⌝ }
 {

@@ -9,7 +9,7 @@ ghost use Rattle.rules.specs.Maker.{idle, walk, show, programWith, blow};
 ghost use Rattle.maker.specs.Placed.{Placed, Room, pulse, shownBit, upToCode, useTry};
 
 // Every step of every act is written here.
-fn place(steps: &[u8], out: &mut [u8], at: usize) -> usize
+pub(crate) fn place(steps: &[u8], out: &mut [u8], at: usize) -> usize
     requires { ⌜ Room (now out) at (now steps) ⌝ }
     ensures { λ r. ⌜ Placed (now (out .entry)) at (now (steps .entry)) r (now (out .exit)) ⌝ }
 {

@@ -11,7 +11,7 @@ use Rattle.memory.specs.Image.{bit}
 use Rattle.rules.specs.Halves.{Card}
 use Rattle.rules.specs.Zones.{between}
 use Rattle.rules.specs.Maker.{digits}
-use Rattle.rules.specs.Demands.{bitsFrom, Right}
+use Rattle.rules.specs.Demands.{bitsFrom, CodeIsRight}
 
 -- The match after the compare of the bit b with the one at a, with SV 0 and below the erase key.
 unfoldable pub codeMatch : List ℕ → ℕ → Bool → Bool → Bool
@@ -72,11 +72,11 @@ matched-bits m (b ∷ bs) a matched low high e =
     go true q l rest = ap₂ _∷_ (agree b (bit m a) (eqb a 80 || matched) (rw inside at q)) (rest true l)
     go false q l rest = absurd (false≢true (sym (lost-match m bs (a + 1) (omega arith)) ∙ l))
 
-pub right-matches : (code : ℕ) (c : Card) → Right code c → shownMatch (c .memory) 80 (digits 16 code) false ≡ true
+pub right-matches : (code : ℕ) (c : Card) → CodeIsRight code c → shownMatch (c .memory) 80 (digits 16 code) false ≡ true
 unfolding shownMatch codeMatch bitsFrom between
 right-matches code c right = rw right (stored-match (c .memory) 16 80)
 
-pub wrong-fails : (code : ℕ) (c : Card) → (Right code c → ⊥) → shownMatch (c .memory) 80 (digits 16 code) false ≡ false
+pub wrong-fails : (code : ℕ) (c : Card) → (CodeIsRight code c → ⊥) → shownMatch (c .memory) 80 (digits 16 code) false ≡ false
 unfolding digits
 wrong-fails code c wrong = go (shownMatch (c .memory) 80 (digits 16 code) false) refl
   where

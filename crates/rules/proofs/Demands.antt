@@ -1,7 +1,7 @@
 -- The proof of each statement of `specs.Demands`, in its order, and after it an example that the statement speaks of.
 use mathlib.Core.Bool.{Bool}
 use Rattle.rules.specs.Demands.{Refused-step-keeps-all, Run-stops-at-a-refusal, Sound-stays-sound}
-use Rattle.rules.specs.Demands.{Right-code-opens, Wrong-code-spends-one-try, Opens-as-made}
+use Rattle.rules.specs.Demands.{Try-is-found, Right-code-opens, Wrong-code-spends-one-try, Opens-as-made}
 use Rattle.rules.specs.Demands.{Hidden-before-opening, Hidden-in-a-run, Shut-for-good, Shut-in-a-run}
 use Rattle.rules.proofs.Stopping as Stopping
 use Rattle.rules.proofs.Soundness as Soundness
@@ -33,6 +33,9 @@ sound-stays-sound = Soundness.sound-stays-sound
 
 pub match-has-to-end : Steps.Match-has-to-end
 match-has-to-end = Steps.match-has-to-end
+
+pub try-is-found : Try-is-found
+try-is-found = Opening.try-is-found
 
 pub right-code-opens : Right-code-opens
 right-code-opens = Opening.right-code-opens

@@ -17,7 +17,7 @@ use Rattle.rules.specs.Refusals.{refusal, runRefusal}
 use Rattle.rules.specs.Card.{Ran, checkedStep, run, checkedRun}
 use Rattle.rules.specs.Computing.{the-card}
 use Rattle.rules.specs.Maker.{reset, walk, show, program, open-card}
-use Rattle.rules.specs.Demands.{hidden, Alike, freshCard, after, Unopened, UnopenedRun, NoTryLeft, Right, bitsFrom}
+use Rattle.rules.specs.Demands.{hidden, Alike, freshCard, after, Unopened, UnopenedRun, NoTryLeft, CodeIsRight, bitsFrom}
 use Rattle.rules.proofs.Tests.{all, below, below-then, and-left, and-right, beq-true, cond-cases}
 use Rattle.rules.proofs.Soundness.{sound-stays-sound}
 use Rattle.rules.proofs.CheckedSteps.{Passes, checked-step}
@@ -74,7 +74,7 @@ further = walk true 8 ++ program true false
 
 pub record Dead-card-moves : Type 0 where
   pub none-left : NoTryLeft dead 0
-  pub right : Right 4626 dead
+  pub right : CodeIsRight 4626 dead
   pub matched : after dead visit .volatile .matched ≡ true
   pub matched-in-a-run : checkedRun dead visit 220 .card .volatile .matched ≡ true
   pub shut : after dead visit .volatile .sv ≡ false

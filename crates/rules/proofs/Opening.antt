@@ -16,11 +16,13 @@ use Rattle.rules.specs.Zones.{between}
 use Rattle.rules.specs.Refusals.{madeUp, stateRefusal, runRefusal}
 use Rattle.rules.specs.Card.{checkedRun}
 use Rattle.rules.specs.Maker.{idle, reset, walk, digits, showBits, program, zerosBefore, open-card, actRefusal, openRefusal}
-use Rattle.rules.specs.Demands.{Idle, attempts, firstTry, shown, Right-code-opens, Wrong-code-spends-one-try, Opens-as-made}
+use Rattle.rules.specs.Demands.{Idle, attempts, firstTry, shown}
+use Rattle.rules.specs.Demands.{Try-is-found, Right-code-opens, Wrong-code-spends-one-try, Opens-as-made}
+use Rattle.rules.proofs.ZoneCases.{within}
 use Rattle.rules.proofs.CodeMatch.{shownMatch, right-matches, wrong-fails}
 use Rattle.rules.proofs.MakerLaws.{length-open}
 use Rattle.rules.proofs.Macros.{Leads, then, Reaches, leads-run, on, ready, resets, walks, shows}
-use Rattle.rules.proofs.Counter.{uses-try, first-try, erased-after-write, word-restored}
+use Rattle.rules.proofs.Counter.{uses-try, first-try, try-there, erased-after-write, word-restored}
 
 clk-low : (fus : Bool) → high CLK (idle fus) ≡ false
 unfolding high digit place idle
@@ -99,6 +101,9 @@ reaches : (fus : Bool) (code : ℕ) (c : Card) → Idle fus c → firstTry c < 1
     Reaches (shown fus code c) (used fus (shownMatch (c .memory) 80 (digits 16 code) false) c)
 unfolding open-card
 reaches fus code c i left = leads-run (opening-steps fus code c i left)
+
+pub try-is-found : Try-is-found
+try-is-found c a inside one = let w = within 96 103 a inside in try-there (c .memory) a (w .0) (w .1) one
 
 pub right-code-opens : Right-code-opens
 right-code-opens fus code c i left right =

@@ -9,7 +9,7 @@ use Rattle.rules.specs.Halves.{Card}
 use Rattle.rules.specs.Computing.{the-card}
 use Rattle.rules.specs.Card.{checkedRun}
 use Rattle.rules.specs.Maker.{idle, digits, zerosBefore, open-card, actRefusal, openRefusal}
-use Rattle.rules.specs.Demands.{Idle, attempts, firstTry, bitsFrom, Right, shown}
+use Rattle.rules.specs.Demands.{Idle, attempts, firstTry, bitsFrom, CodeIsRight, shown}
 use Rattle.rules.proofs.Opening.{right-code-opens, wrong-code-spends-one-try, opens-as-made}
 
 -- The code 0x1234 in bits 80 to 95, and a byte of bits 96 to 103; all other bits but the first are ones.
@@ -50,11 +50,11 @@ pub first-is-99 : (fus : Bool) (fuses : ℕ) → firstTry (card fus fuses) ≡ 9
 unfolding zerosBefore the-card
 first-is-99 fus fuses = refl
 
-right : (fus : Bool) (fuses : ℕ) → Right 0x1234 (card fus fuses)
+right : (fus : Bool) (fuses : ℕ) → CodeIsRight 0x1234 (card fus fuses)
 unfolding digits bitsFrom the-card
 right fus fuses = refl
 
-wrong : (fus : Bool) (fuses : ℕ) → Right 0x1235 (card fus fuses) → ⊥
+wrong : (fus : Bool) (fuses : ℕ) → CodeIsRight 0x1235 (card fus fuses) → ⊥
 unfolding digits bitsFrom the-card
 wrong fus fuses e = true≢false (ap (λ (bs : List Bool). getD bs 15 true) e)
 

@@ -1,5 +1,6 @@
 -- The user's demands as statements about the definitions that the contracts of step, run and maker cite. The module `proofs.Demands`
--- proves each under its own name.
+-- proves each under its own name. Of demand 1, "answers and ends", and of demand 2 the first sentence are the contracts of step and run
+-- themselves (`StepAnswered`, `RunAnswered` of the crate card), which hold for every input.
 use Prim.Native.Nat.{ℕ, zero, suc, _+_, _*_, _<_, _≤_}
 use mathlib.Core.Path.{_≡_}
 use mathlib.Core.Bool.{Bool, true, false, cond, _||_}
@@ -64,14 +65,18 @@ attempts c = getD (c .memory) 12 0
 abbrev pub firstTry : Card → ℕ
 firstTry c = 96 + zerosBefore 8 (attempts c)
 
+-- "a try that is still there": a one anywhere in bits 96 to 103.
+abbrev pub Try-is-found : Type 0
+Try-is-found = (c : Card) (a : ℕ) → between 96 103 a ≡ true → bit (c .memory) a ≡ true → firstTry c < 104
+
 -- The bits a, a + 1, .. of an image, so many of them.
 unfoldable pub bitsFrom : List ℕ → ℕ → ℕ → List Bool
 bitsFrom m a zero = []
 bitsFrom m a (suc n) = bit m a ∷ bitsFrom m (a + 1) n
 
 -- The code equals bits 80 to 95.
-abbrev pub Right : ℕ → Card → Type 0
-Right code c = digits 16 code ≡ bitsFrom (c .memory) 80 16
+abbrev pub CodeIsRight : ℕ → Card → Type 0
+CodeIsRight code c = digits 16 code ≡ bitsFrom (c .memory) 80 16
 
 -- The maker's steps for this card and code, run.
 abbrev pub shown : Bool → ℕ → Card → Ran
@@ -97,11 +102,11 @@ pub record Spent (c : Card) (r : Ran) : Type 0 where
 
 abbrev pub Right-code-opens : Type 0
 Right-code-opens =
-    (fus : Bool) (code : ℕ) (c : Card) → Idle fus c → firstTry c < 104 → Right code c → Opened c (shown fus code c)
+    (fus : Bool) (code : ℕ) (c : Card) → Idle fus c → firstTry c < 104 → CodeIsRight code c → Opened c (shown fus code c)
 
 abbrev pub Wrong-code-spends-one-try : Type 0
 Wrong-code-spends-one-try =
-    (fus : Bool) (code : ℕ) (c : Card) → Idle fus c → firstTry c < 104 → (Right code c → ⊥) → Spent c (shown fus code c)
+    (fus : Bool) (code : ℕ) (c : Card) → Idle fus c → firstTry c < 104 → (CodeIsRight code c → ⊥) → Spent c (shown fus code c)
 
 -- The steps shown are the ones that the maker gives, and that a run takes: neither refuses them where there is room for 223 + 2k.
 abbrev pub Opens-as-made : Type 0

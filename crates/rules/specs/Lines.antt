@@ -1,6 +1,6 @@
 -- 01, "Steps": a step is a byte of line levels.
 use Prim.Native.Nat.{ℕ, _+_, _-_, _^_}
-use mathlib.Core.Bool.{Bool, cond, _||_}
+use mathlib.Core.Bool.{Bool, cond}
 use lib.Dec.{eqb}
 use Rattle.memory.specs.Image.{digit}
 

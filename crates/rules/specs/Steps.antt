@@ -55,7 +55,8 @@ unfoldable pub rstFalls : ℕ → Card → Card
 unfolding follows arrived
 rstFalls n c = withVolatile c (arrived (c .memory) (c .fuses) 0 (follows n (c .volatile)))
 
--- "CLK falls in programming: the operation takes effect under the flags and lines of that moment; the address stays."
+-- "CLK falls in programming: the operation takes effect under the flags and lines of that moment; the address stays." There is no arrival:
+-- "Erasing the bit while standing on it doesn't set the flag, writing it doesn't clear it."
 unfoldable pub programmed : Operation → ℕ → Card → Card
 unfolding memoryAfter fusesAfter opens keyOpens
 programmed op n c =
@@ -129,7 +130,7 @@ powered (Falls PGM) n c = withVolatile c (follows n (c .volatile))
 powered (Falls IO) n c = withVolatile c (follows n (c .volatile))
 powered (Falls FUS) n c = withVolatile c (follows n (c .volatile))
 
--- The card after the accepted step n. "Without VCC the lines only follow."
+-- The card after the accepted step n. "Without VCC the lines only follow." "VCC rises: nothing more."
 unfoldable pub next : Card → ℕ → Card
 unfolding powered follows
 next c n =

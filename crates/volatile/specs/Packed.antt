@@ -54,7 +54,7 @@ packed v =
 abbrev pub cardOf : List ℕ → ℕ → Volatile → Card
 cardOf m fuses v = record { memory = m; fuses = fuses; volatile = unpacked v }
 
--- 9 of a packed half: a flag that no card has is made up too.
+-- 9 of a packed half. 01's clauses are `madeUp`; a word with a flag that no card has is made up too, which is this packing's own clause.
 unfoldable pub madeUpWord : Volatile → Bool
 unfolding unpacked
 madeUpWord v = ltb 127 (v .flags) || madeUp (unpacked v)

@@ -236,7 +236,7 @@ impl Volatile {
         flags + lasting + unless(is_set(self.lines, FUS), 64) + unless(open, 128)
     }
 
-    // Whether the address may be read. The zones that are walked over and read out most are tested first.
+    // Whether the address may be read. Only SC and EZ have rights that take the table.
     pub fn may_read(self, fuses: u8) -> bool
         ensures { λ r. ⌜ r ≡ mayRead (held fuses (unpacked self)) (zone (self .address)) ⌝ }
     {
@@ -244,10 +244,19 @@ impl Volatile {
         if a < 80 {
             return true;
         }
-        if (176 <= a) & (a < 1200) {
+        if a < 96 {
+            return self.may_read_by_table(fuses);
+        }
+        if a < 176 {
+            return true;
+        }
+        if a < 1200 {
             return self.flags & 5 != 0;
         }
-        self.may_read_by_table(fuses)
+        if a < 1232 {
+            return self.may_read_by_table(fuses);
+        }
+        a < 1392
     }
 
     // The same, by the table of rights.

@@ -2,6 +2,8 @@ use mathlib.Core.Path.{sym, _∙_}
 use denote.Ref.{now}
 use Prim.Native.Nat.{_-_}
 use native.Mathlib.Omega.{arith}
+use native.Mathlib.Nat.{lt-of-lt-of-le}
+use lib.Dec.{lit≤}
 use lib.ListN.{length}
 use borrow.Author.Needs.{needs}
 use Rattle.card.proofs.Loop.{Going, starts, ends, stops, again}
@@ -26,7 +28,7 @@ shared-slice-read-moves : tie.Need-shared-slice-read-moves Inv-loop μ-loop
 shared-slice-read-moves c = search needs
 
 cast-moves : tie.Need-cast-moves Inv-loop μ-loop
-cast-moves c = omega (arith, c .shared-slice-known2 .given (c .before .before .before .loop .i))
+cast-moves c = record { fits = lt-of-lt-of-le (c .shared-slice-known2 .given _ .fits) (lit≤ tt) }
 
 moves-requires : tie.Need-moves-requires Inv-loop μ-loop
 moves-requires c κs = c .before .before .before .loop .inv .ready

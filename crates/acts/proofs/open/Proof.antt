@@ -1,0 +1,47 @@
+use mathlib.Core.Bool.{true}
+use mathlib.Core.Path.{_≡_, refl, sym, _∙_}
+use denote.Ref.{now}
+use Rattle.words.specs.Numbers.{numberOf}
+use Rattle.words.specs.declared.Number.the-variants.{Is, Not}
+use native.Mathlib.Omega.{arith}
+use Rattle.words.proofs.Bounds.{hex-below}
+use borrow.Author.Tests.{eq-eqb, ne-eqb}
+use Rattle.acts.specs.Orders.{openOrder}
+use borrow.Author.Needs.{needs}
+use Rattle.acts.proofs.open.Statement.{statement}
+use Rattle.acts.proofs.open.Tie as tie
+
+found : (c : tie.After-known-told) → numberOf true (now (c .before .before .before .before .before .args .w)) ≡ Is (c .before .n .given .0 .0)
+found c = sym (c .before .before .before .numeral .ensures) ∙ c .before .n .given .1
+
+missing : (c : tie.After-enum-told) → numberOf true (now (c .before .before .before .before .args .w)) ≡ Not
+missing c = sym (c .before .before .numeral .ensures) ∙ c .enum-told .given .1
+
+numeral-requires : tie.Need-numeral-requires
+numeral-requires c κs = search needs
+
+enum-known-n : tie.Need-enum-known-n
+enum-known-n c = search needs
+
+enum-told : tie.Need-enum-told
+enum-told c = search needs
+
+returns : tie.Need-returns
+unfolding openOrder
+returns c = rw (missing c) refl
+
+cast-t6 : tie.Need-cast-t6
+cast-t6 c = omega (arith, hex-below (now (c .before .before .before .before .before .before .args .w)) 4 _ (c .if1 .taken) (found (c .before)))
+
+returns-2 : tie.Need-returns-2
+unfolding openOrder
+returns-2 c = rw (found (c .before), eq-eqb _ _ (c .if1 .taken)) refl
+
+returns-3 : tie.Need-returns-3
+unfolding openOrder
+returns-3 c = rw (found (c .before), ne-eqb _ _ (c .if1 .left)) refl
+
+pub open-spec : {M : Type 1} → statement M
+open-spec =
+    tie.close
+    (tie.spec numeral-requires enum-known-n enum-told returns cast-t6 returns-2 returns-3)

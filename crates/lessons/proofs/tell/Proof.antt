@@ -1,0 +1,112 @@
+use Prim.Native.Nat.{_≤_}
+use mathlib.Core.Path.{sym, _∙_}
+use lib.ListN.{length}
+use lib.Seq.{length-take-le}
+use Rattle.text.proofs.Fitting.{session-fits}
+use borrow.Author.Needs.{needs}
+use Rattle.lessons.proofs.tell.Statement.{statement}
+use Rattle.lessons.proofs.tell.Tie as tie
+
+slice-aggregate-assemble : tie.Need-slice-aggregate-assemble
+slice-aggregate-assemble c = search needs
+
+assemble-requires : tie.Need-assemble-requires
+assemble-requires c κs = search needs
+
+enum-known-n : tie.Need-enum-known-n
+enum-known-n c = search needs
+
+print-decimal-requires : tie.Need-print-decimal-requires
+print-decimal-requires c κs = search needs
+
+fits : (c : tie.After-known-told) → c .before .n .given .0 .0 ≤ length (c .before .before .before .before .assemble .last .1 .0)
+fits c = rw (c .before .before .before .before .assemble .kept .1 .0) (session-fits _ _ _ (sym (c .before .before .before .before .assemble .ensures .answer) ∙ c .before .n .given .1))
+
+array-share-prefix-session : tie.Need-array-share-prefix-session
+array-share-prefix-session c = fits (c .before)
+
+slice-aggregate-same : tie.Need-slice-aggregate-same
+slice-aggregate-same c = sym (length-take-le _ _ (fits (c .before .before)))
+
+same-requires : tie.Need-same-requires
+same-requires c κs = search needs
+
+slice-aggregate-say : tie.Need-slice-aggregate-say
+slice-aggregate-say c = search needs
+
+say-requires : tie.Need-say-requires
+say-requires c κs = search needs
+
+slice-aggregate-say-2 : tie.Need-slice-aggregate-say-2
+slice-aggregate-say-2 c = search needs
+
+say-requires-2 : tie.Need-say-requires-2
+say-requires-2 c κs = search needs
+
+enum-known-line : tie.Need-enum-known-line
+enum-known-line c = search needs
+
+slice-aggregate-say-3 : tie.Need-slice-aggregate-say-3
+slice-aggregate-say-3 c = search needs
+
+say-requires-3 : tie.Need-say-requires-3
+say-requires-3 c κs = search needs
+
+print-decimal-requires-2 : tie.Need-print-decimal-requires-2
+print-decimal-requires-2 c κs = search needs
+
+slice-aggregate-say-4 : tie.Need-slice-aggregate-say-4
+slice-aggregate-say-4 c = search needs
+
+say-requires-4 : tie.Need-say-requires-4
+say-requires-4 c κs = search needs
+
+cast-print-decimal : tie.Need-cast-print-decimal
+cast-print-decimal c = search needs
+
+print-decimal-requires-3 : tie.Need-print-decimal-requires-3
+print-decimal-requires-3 c κs = search needs
+
+slice-aggregate-say-5 : tie.Need-slice-aggregate-say-5
+slice-aggregate-say-5 c = search needs
+
+say-requires-5 : tie.Need-say-requires-5
+say-requires-5 c κs = search needs
+
+returns : tie.Need-returns
+returns c = search needs
+
+returns-2 : tie.Need-returns-2
+returns-2 c = search needs
+
+returns-3 : tie.Need-returns-3
+returns-3 c = search needs
+
+pub tell-spec : {M : Type 1} → statement M
+tell-spec =
+    tie.close
+    (tie.spec
+    slice-aggregate-assemble
+    assemble-requires
+    enum-known-n
+    print-decimal-requires
+    array-share-prefix-session
+    slice-aggregate-same
+    same-requires
+    slice-aggregate-say
+    say-requires
+    slice-aggregate-say-2
+    say-requires-2
+    enum-known-line
+    slice-aggregate-say-3
+    say-requires-3
+    print-decimal-requires-2
+    slice-aggregate-say-4
+    say-requires-4
+    cast-print-decimal
+    print-decimal-requires-3
+    slice-aggregate-say-5
+    say-requires-5
+    returns
+    returns-2
+    returns-3)

@@ -1,0 +1,19 @@
+use Rattle.text.proofs.Arranging.{before-the-steps, after-a-step}
+use borrow.Author.Needs.{needs}
+use Rattle.text.proofs.sheet.arrange.Statement.{statement}
+use Rattle.text.proofs.sheet.arrange.Tie as tie
+
+change-requires : tie.Need-change-requires
+change-requires c κs = search needs
+
+same-length : tie.Need-same-length
+same-length c = search needs
+
+returns : tie.Need-returns
+returns c = λ steps h. before-the-steps _ _ _ steps h _ _ (c .before .before .before .before .if1 .taken) (c .before .before .change .ensures)
+
+returns-2 : tie.Need-returns-2
+returns-2 c = λ steps h. after-a-step _ _ _ steps h (c .if1 .left)
+
+pub arrange-spec : {M : Type 1} → statement M
+arrange-spec = tie.close (tie.spec change-requires same-length returns returns-2)

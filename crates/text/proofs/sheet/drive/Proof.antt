@@ -1,0 +1,73 @@
+use mathlib.Core.Path.{sym}
+use native.Mathlib.Omega.{arith}
+use denote.Ref.{now}
+use lib.Seq.{length-take-le}
+use Rattle.text.proofs.Driving.{more-fits, came-on, came-to-a-stop}
+use borrow.Author.Needs.{needs}
+use Rattle.text.proofs.sheet.drive.Statement.{statement}
+use Rattle.text.proofs.sheet.drive.Tie as tie
+
+slice-reshare-prefix-present : tie.Need-slice-reshare-prefix-present
+slice-reshare-prefix-present c = search needs
+
+slice-aggregate-present : tie.Need-slice-aggregate-present
+slice-aggregate-present c = sym (length-take-le _ _ (c .before .before .before .pre .1 .1))
+
+present-requires : tie.Need-present-requires
+present-requires c κs = search needs
+
+shared-slice-read-make : tie.Need-shared-slice-read-make
+shared-slice-read-make c = search needs
+
+sub-make : tie.Need-sub-make
+sub-make c = search needs
+
+part-make-start : tie.Need-part-make-start
+part-make-start c = search needs
+
+part-make-end : tie.Need-part-make-end
+part-make-end c = search needs
+
+make-requires : tie.Need-make-requires
+make-requires c κs = search needs
+
+enum-known-made : tie.Need-enum-known-made
+enum-known-made c = search needs
+
+add-t19 : tie.Need-add-t19
+add-t19 c = omega (arith, more-fits (c .before .before .before .before .before .before .before .before .before .before .before .before .args .act) (c .before .before .before .before .before .before .before .before .before .before .before .before .args .p) (now (c .before .before .before .before .before .before .before .before .before .before .before .before .args .image)) _ _ _ (c .before .before .before .before .before .before .before .before .before .before .before .before .pre .1 .0) (c .before .before .before .before .before .before .before .before .before .before .before .before .pre .1 .1) (rw (c .before .before .before .before .before .before .before .before .present .ensures) at (c .before .before .before .before .before .make .ensures)) _ (c .before .made .given .1))
+
+enum-known-made-2 : tie.Need-enum-known-made-2
+enum-known-made-2 c = search needs
+
+same-length : tie.Need-same-length
+same-length c = search needs
+
+returns : tie.Need-returns
+returns c = came-on _ _ _ _ _ _ (c .before .before .before .before .before .before .before .before .before .before .before .before .pre .1 .0) (c .before .before .before .before .before .before .before .before .before .before .before .before .pre .1 .1) (rw (c .before .before .before .before .before .before .before .before .present .ensures) at (c .before .before .before .before .before .make .ensures)) _ (c .before .made .given .1) (c .before .before .before .before .before .make .kept .1 .1 .1 .0)
+
+same-length-2 : tie.Need-same-length-2
+same-length-2 c = search needs
+
+returns-2 : tie.Need-returns-2
+returns-2 c = came-to-a-stop _ _ _ _ _ _ (c .before .before .before .before .before .before .before .before .before .before .before .before .pre .1 .0) (c .before .before .before .before .before .before .before .before .before .before .before .before .pre .1 .1) (rw (c .before .before .before .before .before .before .before .before .present .ensures) at (c .before .before .before .before .before .make .ensures)) _ _ _ (c .before .made2 .given .1)
+
+pub drive-spec : {M : Type 1} → statement M
+drive-spec =
+    tie.close
+    (tie.spec
+    slice-reshare-prefix-present
+    slice-aggregate-present
+    present-requires
+    shared-slice-read-make
+    sub-make
+    part-make-start
+    part-make-end
+    make-requires
+    enum-known-made
+    add-t19
+    enum-known-made-2
+    same-length
+    returns
+    same-length-2
+    returns-2)

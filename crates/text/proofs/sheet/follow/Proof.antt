@@ -1,0 +1,68 @@
+use mathlib.Core.Path.{refl}
+use native.Mathlib.Omega.{arith}
+use denote.Ref.{now}
+use Rattle.text.specs.Sheet.{follow}
+use Rattle.text.specs.Progress.{outcomeOf, countOf}
+use borrow.Author.Needs.{needs}
+use Rattle.text.proofs.sheet.follow.Statement.{statement}
+use Rattle.text.proofs.sheet.follow.Tie as tie
+
+enum-told : tie.Need-enum-told
+enum-told c = search needs
+
+enum-known-order : tie.Need-enum-known-order
+enum-known-order c = search needs
+
+arrange-requires : tie.Need-arrange-requires
+arrange-requires c κs = search needs
+
+enum-known-order-2 : tie.Need-enum-known-order-2
+enum-known-order-2 c = search needs
+
+drive-requires : tie.Need-drive-requires
+drive-requires c κs = search needs
+
+enum-known-order-3 : tie.Need-enum-known-order-3
+enum-known-order-3 c = search needs
+
+returns : tie.Need-returns
+unfolding follow outcomeOf countOf
+returns c = rw (c .enum-told .given .1) (record { outcome = refl; within = c .before .before .before .before .pre .1 .1 })
+
+same-length : tie.Need-same-length
+same-length c = search needs
+
+returns-2 : tie.Need-returns-2
+returns-2 c = rw (c .before .before .before .before .before .order .given .1) (c .before .before .arrange .ensures (now (c .before .before .before .before .before .before .before .before .before .args .steps)) (c .before .before .before .before .before .before .before .before .before .pre .1 .1))
+
+same-length-2 : tie.Need-same-length-2
+same-length-2 c = search needs
+
+same-length-3 : tie.Need-same-length-3
+same-length-3 c = search needs
+
+returns-3 : tie.Need-returns-3
+unfolding follow
+returns-3 c = rw (c .before .before .before .before .before .before .order2 .given .1) (c .before .before .drive .ensures)
+
+returns-4 : tie.Need-returns-4
+unfolding follow outcomeOf countOf
+returns-4 c = rw (c .before .order3 .given .1) (record { outcome = refl; within = omega arith })
+
+pub follow-spec : {M : Type 1} → statement M
+follow-spec =
+    tie.close
+    (tie.spec
+    enum-told
+    enum-known-order
+    arrange-requires
+    enum-known-order-2
+    drive-requires
+    enum-known-order-3
+    returns
+    same-length
+    returns-2
+    same-length-2
+    same-length-3
+    returns-3
+    returns-4)
