@@ -4,6 +4,8 @@ use denote.Ref.{now}
 use mathlib.Core.Path.{refl}
 use lib.ListN.{replicate}
 use borrow.Author.Needs.{needs}
+use Rattle.report.specs.Lines.{fourLines}
+use Rattle.report.specs.Buffer.{Made}
 use Rattle.fresh_run.proofs.Laws.{from-fresh, text-of, not-long, never-small}
 use Rattle.fresh_run.proofs.report.Statement.{statement}
 use Rattle.fresh_run.proofs.report.Tie as tie
@@ -49,7 +51,8 @@ returns c =
     let refusal-fits : ran .result .refusal < 2 ^ 64 = omega (arith, ran .ok) in
     let left-fits : c .before .before .before .before .before .tries-left .result < 2 ^ 64 = omega (arith, c .before .before .before .before .before .tries-left .ok) in
     let text = text-of _ _ _ _ (args .given) f in
-    let made = rw (c .before .before .before .before .before .tries-left .ensures, text) at (lines .ensures) in
+    let lines-told : Made (fourLines (ran .result .done) (args .given) (ran .result .refusal) _ _) _ _ _ = lines .ensures in
+    let made = rw (c .before .before .before .before .before .tries-left .ensures, text) at lines-told in
     (made, (f .memory, never-small (not-long _ _ _ _ _ done-fits (args-fit .given .fits) refusal-fits left-fits (ran .kept .1 .1 .1 .1 .0)) (lines .ensures)))
 
 pub report-spec : {M : Type 1} → statement M

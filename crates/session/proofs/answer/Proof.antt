@@ -1,6 +1,8 @@
 use mathlib.Core.Path.{sym, ap, _∙_}
 use borrow.Author.Needs.{needs}
 use Rattle.file.specs.Opening.{sessionNumber, inMemory}
+use Rattle.report.specs.Buffer.{Made}
+use Rattle.fresh_run.specs.FreshRun.{runText}
 use Rattle.session.proofs.Laws.{refused-text, opened-text}
 use Rattle.session.proofs.answer.Statement.{statement}
 use Rattle.session.proofs.answer.Tie as tie
@@ -52,7 +54,9 @@ returns-2 c =
     let told = c .before .before .before .before .before .before .before .before .opened .given .1 in
     let answered = sym (open-session .answer) ∙ told in
     let memory = rw told at (open-session .bytes) in
-    rw (memory, c .before .before .before .before .before .before .step-section .ensures .bytes, opened-text _ _ _ answered) at (c .before .before .before .report .ensures .0)
+    let fuses = c .before .before .before .before .before .before .before .before .opened .given .0 .0 in
+    let told : Made (runText _ fuses _ _) _ _ _ = c .before .before .before .report .ensures .0 in
+    rw (memory, c .before .before .before .before .before .before .step-section .ensures .bytes, opened-text _ _ _ answered) at told
 
 pub answer-spec : {M : Type 1} → statement M
 answer-spec =
