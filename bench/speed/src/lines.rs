@@ -115,9 +115,11 @@ fn random() -> Line {
     let mut waveform = Waveform::new(memory, true);
     let mut state = 2;
     while waveform.steps.len() < MOST_STEPS {
-        let off = waveform.card.volatile.lines & VCC == 0;
+        let lines = waveform.card.volatile.lines;
         let line = match next(&mut state) % 64 {
-            0..=31 if off => VCC,
+            // VCC rises with CLK and PGM low alone.
+            0..=31 if lines & (VCC | CLK | PGM) == 0 => VCC,
+            0..=31 if lines & (VCC | CLK) == 0 => PGM,
             0..=31 => CLK,
             32..=43 => IO,
             44..=53 => PGM,
@@ -125,7 +127,7 @@ fn random() -> Line {
             59..=62 => RST,
             _ => VCC,
         };
-        let step = waveform.card.volatile.lines ^ line;
+        let step = lines ^ line;
         if waveform.card.step(step).is_ok() {
             waveform.steps.push(step);
         }

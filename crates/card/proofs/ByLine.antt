@@ -63,6 +63,11 @@ module _ (m : List ℕ) (fuses : ℕ) (v : Volatile) (p n : ℕ) (ready : Ready 
   unfolding unpacked
   address-within = sound-half v (ready .sound) .placed .within
 
+  -- With CLK low no programming is under way.
+  pub idle : high CLK l ≡ false → w .programming ≡ false
+  unfolding unpacked
+  idle k = off-then (w .programming) (high CLK l) (sound-half v (ready .sound) .wired .under-way) k
+
   -- A line x that is turned over has this refusal.
   number-of : (x : Line) (k : ℕ) → Turned x l n → edgeRefusal (change x l) l (w .programming) ≡ k → refusal w n ≡ k
   number-of x k t e = refusal-at m fuses v p n (change x l) (t .small) (t .edge-is) ∙ e
@@ -118,12 +123,21 @@ module _ (m : List ℕ) (fuses : ℕ) (v : Volatile) (p n : ℕ) (ready : Ready 
     pgm-follows h =
         reads m fuses v p n (follows n w) (number-of PGM 0 t (pgm-number l (w .programming) ∙ rw h)) (follows-next PGM t refl refl)
 
+  -- An accepted step that changes the volatile half alone, to u.
+  pub record Goes (u : Halves.Volatile) : Type 0 where
+    pub none : refusal w n ≡ 0
+    pub there : next card n ≡ withVolatile card u
+
+  pub io-goes : Turned IO l n → Goes (follows n w)
+  unfolding powered
+  io-goes t = record { none = number-of IO 0 t (io-number l (w .programming)); there = follows-next IO t refl refl }
+
   -- I/O changes nothing that the pin looks at.
   pub io-follows : Turned IO l n → Steps m fuses v p n (moved (packed (follows n w)) fuses p 0) m
-  unfolding powered follows pin driven held place unpacked
+  unfolding follows pin driven held place unpacked
   io-follows t =
-      keeps m fuses v p n (follows n w) (number-of IO 0 t (io-number l (w .programming))) (follows-next IO t refl refl)
-      (ready .pinned ∙ same)
+      let g = io-goes t in
+      keeps m fuses v p n (follows n w) (g .none) (g .there) (ready .pinned ∙ same)
     where
       same : pin card ≡ pin (withVolatile card (follows n w))
       same = rw (t .others VCC refl, t .others RST refl, t .others PGM refl, t .others FUS refl)
@@ -189,26 +203,37 @@ module _ (m : List ℕ) (fuses : ℕ) (v : Volatile) (p n : ℕ) (ready : Ready 
 
   -- CLK.
   module _ (t : Turned CLK l n) where
+    pub clk-unpowered-goes : high VCC l ≡ false → Goes (follows n w)
+    clk-unpowered-goes h =
+        record {
+          none = number-of CLK 0 t (clk-number l (w .programming) ∙ rw (h, and-false (high CLK l)));
+          there = next-at m fuses v p n (change CLK l) false (t .edge-is) h;
+        }
+
     pub clk-unpowered : high VCC l ≡ false → Steps m fuses v p n (moved (packed (follows n w)) fuses p 0) m
     unfolding follows place unpacked
     clk-unpowered h =
-        keeps m fuses v p n (follows n w)
-        (number-of CLK 0 t (clk-number l (w .programming) ∙ rw (h, and-false (high CLK l))))
-        (next-at m fuses v p n (change CLK l) false (t .edge-is) h)
+        let g = clk-unpowered-goes h in
+        keeps m fuses v p n (follows n w) (g .none) (g .there)
         (ready .pinned ∙ (unpowered-pin w h ∙ sym (unpowered-pin (follows n w) (t .others VCC refl ∙ h))))
 
-    pub clk-rises : high VCC l ≡ true → high CLK l ≡ false → Steps m fuses v p n (moved (packed (clkRises n w)) fuses p 0) m
-    unfolding powered change clkRises place unpacked
-    clk-rises h k =
-        keeps m fuses v p n (clkRises n w) (number-of CLK 0 t (clk-number l (w .programming) ∙ rw k))
-        (next-at m fuses v p n (change CLK l) true (t .edge-is) h ∙ rw k) (ready .pinned ∙ go (high PGM l) refl)
-      where
-        idle : w .programming ≡ false
-        idle = off-then (w .programming) (high CLK l) (sound-half v (ready .sound) .wired .under-way) k
+    pub clk-rises-goes : high VCC l ≡ true → high CLK l ≡ false → Goes (clkRises n w)
+    unfolding powered change
+    clk-rises-goes h k =
+        record {
+          none = number-of CLK 0 t (clk-number l (w .programming) ∙ rw k);
+          there = next-at m fuses v p n (change CLK l) true (t .edge-is) h ∙ rw k;
+        }
 
+    pub clk-rises : high VCC l ≡ true → high CLK l ≡ false → Steps m fuses v p n (moved (packed (clkRises n w)) fuses p 0) m
+    unfolding clkRises place unpacked
+    clk-rises h k =
+        let g = clk-rises-goes h k in
+        keeps m fuses v p n (clkRises n w) (g .none) (g .there) (ready .pinned ∙ go (high PGM l) refl)
+      where
         go : (b : Bool) → high PGM l ≡ b → pin card ≡ pin (withVolatile card (clkRises n w))
         go true g = program-pin w g ∙ sym (program-pin (clkRises n w) (t .others PGM refl ∙ g))
-        go false g = rising-pin t g idle
+        go false g = rising-pin t g (idle k)
 
     pub clk-refused :
         high VCC l ≡ true → high CLK l ≡ true → w .programming ≡ true → high PGM l ≡ true → Steps m fuses v p n (moved v fuses p 4) m
@@ -231,13 +256,20 @@ module _ (m : List ℕ) (fuses : ℕ) (v : Volatile) (p n : ℕ) (ready : Ready 
         (next-at m fuses v p n (change CLK l) true (t .edge-is) h ∙ rw (k, q, r))
         (ready .pinned ∙ (reset-pin w r ∙ sym (reset-pin (unlatched n (w .matched) w) (t .others RST refl ∙ r))))
 
+    pub clk-counts :
+        high VCC l ≡ true → high CLK l ≡ true → w .programming ≡ false → high RST l ≡ false →
+        (refusal w n ≡ 0) × (next card n ≡ clocked n card)
+    unfolding powered change clkFalls clocked unpacked
+    clk-counts h k q r =
+        (number-of CLK 0 t (clk-number l (w .programming) ∙ rw (h, k, q)), next-at m fuses v p n (change CLK l) true (t .edge-is) h ∙ rw (k, q, r))
+
     pub clk-moves :
         high VCC l ≡ true → high CLK l ≡ true → w .programming ≡ false → high RST l ≡ false →
         Steps m fuses v p n (movedTo (clocked n card)) m
-    unfolding powered change clkFalls clocked unpacked
+    unfolding clocked
     clk-moves h k q r =
-        goes-to m fuses v p n (clocked n card) (number-of CLK 0 t (clk-number l (w .programming) ∙ rw (h, k, q)))
-        (next-at m fuses v p n (change CLK l) true (t .edge-is) h ∙ rw (k, q, r))
+        let g = clk-counts h k q r in
+        goes-to m fuses v p n (clocked n card) (g .0) (g .1)
 
   -- No line: the step is the present levels.
   pub same-step : bitXor l n ≡ 0 → Steps m fuses v p n (moved v fuses p 0) m

@@ -5,6 +5,7 @@ pub mod EdgeLaws
 pub mod ByLine
 pub mod PlainMoves
 pub mod Loop
+pub mod WithoutLoop
 pub mod NumberLaws
 pub mod Answers
 pub mod AsDefined

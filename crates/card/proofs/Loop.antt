@@ -112,24 +112,29 @@ pub record Going
   pub so-far : run (cardOf m fuses v) steps ≡ behind (take i answers) (run (cardOf image f s) (drop i steps))
   pub rest : drop i answers ≡ drop i answers₀
 
+-- A card that is given no number is ready.
+pub ready-at : (m : List ℕ) (fuses : ℕ) (v : Volatile) (p : ℕ) → stateNumber m fuses v ≡ 0 → p ≡ pin (cardOf m fuses v) → Ready m fuses v p
+unfolding stateNumber
+ready-at m fuses v p z e =
+    let a = peel (not (eqb (length m) bytes)) 9 _ z in
+    let b = peel (ltb 7 fuses) 13 _ (a .1) in
+    let d = peel (madeUpWord v) 8 0 (b .1) in
+    record {
+      sized = eqb-true (length m) bytes (not-false (eqb (length m) bytes) (a .0));
+      fused = ltb-false 7 fuses (b .0);
+      sound = d .0;
+      pinned = e;
+    }
+
 module _ (m : List ℕ) (fuses : ℕ) (v : Volatile) (steps answers₀ : List ℕ) where
   pub starts :
       (p : ℕ) → stateNumber m fuses v ≡ 0 → length steps ≤ length answers₀ → p ≡ pin (cardOf m fuses v) →
       Going m fuses v steps answers₀ m answers₀ fuses v p 0
-  unfolding stateNumber
   starts p z h e =
-      let a = peel (not (eqb (length m) bytes)) 9 _ z in
-      let b = peel (ltb 7 fuses) 13 _ (a .1) in
-      let d = peel (madeUpWord v) 8 0 (b .1) in
+      let ready = ready-at m fuses v p z e in
       record {
-        ready =
-            record {
-              sized = eqb-true (length m) bytes (not-false (eqb (length m) bytes) (a .0));
-              fused = ltb-false 7 fuses (b .0);
-              sound = d .0;
-              pinned = e;
-            };
-        start-sized = eqb-true (length m) bytes (not-false (eqb (length m) bytes) (a .0));
+        ready = ready;
+        start-sized = ready .sized;
         within = omega arith;
         room = h;
         sized = refl;

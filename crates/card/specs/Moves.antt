@@ -18,6 +18,8 @@ use Rattle.volatile.specs.Packed.{packed, unpacked, cardOf, madeUpWord, goneOn,
 use Rattle.card.specs.declared.handed.Moved.{Moved}
 use Rattle.card.specs.declared.Ran as Declared
 use Rattle.card.specs.declared.programming.Done.{Done}
+use Rattle.card.specs.declared.quick.Quick.{Quick}
+use Rattle.card.specs.declared.quick.Quick.the-variants.{To, Other}
 
 -- A card that 10, 14 and 9 let pass, with its pin at hand.
 pub record Ready (m : List ℕ) (fuses : ℕ) (v : Volatile) (p : ℕ) : Type 0 where
@@ -61,6 +63,12 @@ doneBy op m fuses a = record { fuses = fusesAfter op fuses; turned = turns op m 
 pub record Steps (m : List ℕ) (fuses : ℕ) (v : Volatile) (p n : ℕ) (r : Moved) (after : List ℕ) : Type 0 where
   pub moved-is : r ≡ movedBy m fuses v p n
   pub memory-is : after ≡ stepped (cardOf m fuses v) n .memory
+
+-- Where a half is named, a sound card's step comes to it and changes nothing else.
+unfoldable pub QuickTo : Volatile → ℕ → Quick → Type 0
+QuickTo v n (To after) =
+    (m : List ℕ) (fuses p : ℕ) → Ready m fuses v p → Steps m fuses v p n (moved after fuses (pin (cardOf m fuses after)) 0) m
+QuickTo v n Other = Unit
 
 -- What a run of a sound card comes to.
 unfoldable pub ranTo : Ran → Declared.Ran

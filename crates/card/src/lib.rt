@@ -1,5 +1,6 @@
 // The card, driven line by line: a step, a run, the flags, the tries left.
 use memory::is_set;
+use quick::Quick;
 use rules::Answer;
 use volatile::Volatile;
 ghost use mathlib.Core.Path.{_≡_};
@@ -14,6 +15,7 @@ mod edges;
 mod handed;
 mod numbers;
 mod programming;
+mod quick;
 
 // What a step comes to: both halves, and the pin's answer or the refusal.
 pub struct Stepped {
@@ -91,18 +93,11 @@ pub fn run(image: &mut [u8], fuses: u8, v: Volatile, steps: &[u8], answers: &mut
     drive(image, fuses, v, steps, answers)
 }
 
-// One step.
-pub fn step(image: &mut [u8], fuses: u8, v: Volatile, n: u8) -> Stepped
+// One step of a sound card, as a run of one.
+fn step_by_run(image: &mut [u8], fuses: u8, v: Volatile, n: u8) -> Stepped
+    requires { ⌜ stateNumber (now image) fuses v ≡ 0 ⌝ }
     ensures { λ r. ⌜ StepAnswered (now (image .entry)) fuses v n r (now (image .exit)) ⌝ }
 {
-    let number = numbers::state_number(image, fuses, v);
-    if number != 0 {
-        return Stepped {
-            fuses: fuses,
-            volatile: v,
-            answer: Answer::Refused(number),
-        };
-    }
     let one = [n];
     let mut told = [1u8];
     let ran = drive(image, fuses, v, &one, &mut told);
@@ -118,6 +113,28 @@ pub fn step(image: &mut [u8], fuses: u8, v: Volatile, n: u8) -> Stepped
         fuses: ran.fuses,
         volatile: after,
         answer: Answer::Pin(told[0]),
+    }
+}
+
+// One step.
+pub fn step(image: &mut [u8], fuses: u8, v: Volatile, n: u8) -> Stepped
+    ensures { λ r. ⌜ StepAnswered (now (image .entry)) fuses v n r (now (image .exit)) ⌝ }
+{
+    let number = numbers::quick_state_number(image, fuses, v);
+    if number != 0 {
+        return Stepped {
+            fuses: fuses,
+            volatile: v,
+            answer: Answer::Refused(number),
+        };
+    }
+    match quick::step(v, n as u32) {
+        Quick::To(next) => Stepped {
+            fuses: fuses,
+            volatile: next,
+            answer: Answer::Pin(next.pin(image, fuses)),
+        },
+        Quick::Other => step_by_run(image, fuses, v, n),
     }
 }
 

@@ -1,10 +1,9 @@
 -- A half that passes the few tests is no made-up state.
-use Prim.Native.Nat.{ℕ, _/_, _%_, _≤_, _<_}
+use Prim.Native.Nat.{ℕ, _≤_, _<_}
 use native.Mathlib.Omega.{arith}
 use mathlib.Core.Path.{_≡_, refl}
 use mathlib.Core.Bool.{Bool, true, false, not, _&&_, _||_, false≢true}
 use lib.Dec.{eqb, ltb, leb}
-use lib.Bits.{bitAnd}
 use borrow.Author.Tests.{ltb-true, leb-true, le-ltb, not-true}
 use Rattle.memory.specs.Image.{digit}
 use Rattle.memory.proofs.Below.{and-left, and-right}
@@ -12,21 +11,18 @@ use Rattle.rules.specs.Lines.{high, place}
 use Rattle.rules.specs.Refusals.{anySet, madeUp}
 use Rattle.rules.proofs.Tests.{all, below₂}
 use Rattle.volatile.specs.declared.Volatile.{Volatile}
-use Rattle.volatile.specs.Packed.{unpacked, madeUpWord, plainlySound}
+use Rattle.volatile.specs.Packed.{unpacked, madeUpWord, wired, plainlySound}
 
--- The tests of the words, and what they leave of 9's clauses.
-tested : ℕ → ℕ → Bool
-tested l f =
-    eqb (bitAnd l 1) 1 && not (eqb (bitAnd l 12) 12) && (eqb (bitAnd f 8) 0 && leb (f / 16) (l / 4 % 2))
-
+-- What the tests of the words leave of 9's clauses.
 clear : ℕ → ℕ → Bool
 clear l f =
     digit 0 l &&
-    (not (digit 4 f && not (digit 2 l)) && (not (digit 3 f) && (not (digit 2 l && digit 3 l) && (not (digit 6 f) && not (digit 5 f)))))
+    (not (digit 4 f && not (digit 2 l)) &&
+    (not (digit 3 f && not (digit 2 l)) && (not (digit 2 l && (digit 3 l && not (digit 3 f))) && (not (digit 6 f) && not (digit 5 f)))))
 
-cleared-by : (l f : ℕ) → l < 64 → f < 32 → (not (tested l f) || clear l f) ≡ true
-unfolding all tested clear digit
-cleared-by = below₂ 64 32 (λ l f. not (tested l f) || clear l f) refl
+cleared-by : (l f : ℕ) → l < 64 → f < 32 → (not (wired l f) || clear l f) ≡ true
+unfolding all wired clear digit
+cleared-by = below₂ 64 32 (λ l f. not (wired l f) || clear l f) refl
 
 then : (a b : Bool) → (not a || b) ≡ true → a ≡ true → b ≡ true
 then true b e h = e
@@ -36,41 +32,34 @@ then false b e h = absurd (false≢true h)
 both : (a b : Bool) → (a && b) ≡ true → (a ≡ true) × (b ≡ true)
 both a b e = (and-left a b e, and-right a b e)
 
-three-clear : (a c d f : Bool) → not (c && d) ≡ true → (a && (c && (d && not f))) ≡ false
-three-clear true true true f h = absurd (false≢true h)
-three-clear true true false f h = refl
-three-clear true false d f h = refl
-three-clear false c d f h = refl
-
 module _ (v : Volatile) where
   clear-sound : v .lines < 64 → v .flags < 32 → v .address ≤ 1519 → clear (v .lines) (v .flags) ≡ true → madeUpWord v ≡ false
   unfolding clear madeUpWord madeUp unpacked high place
   clear-sound l f a e =
       let vcc = both (digit 0 (v .lines)) _ e in
       let latch = both (not (digit 4 (v .flags) && not (digit 2 (v .lines)))) _ (vcc .1) in
-      let under-way = both (not (digit 3 (v .flags))) _ (latch .1) in
-      let started = both (not (digit 2 (v .lines) && digit 3 (v .lines))) _ (under-way .1) in
+      let under-way = both (not (digit 3 (v .flags) && not (digit 2 (v .lines)))) _ (latch .1) in
+      let started = both (not (digit 2 (v .lines) && (digit 3 (v .lines) && not (digit 3 (v .flags))))) _ (under-way .1) in
       let matched = both (not (digit 6 (v .flags))) _ (started .1) in
       rw (
         le-ltb 127 (v .flags) (omega arith),
         le-ltb 63 (v .lines) (omega arith),
         le-ltb 1519 (v .address) a,
         not-true (digit 4 (v .flags) && not (digit 2 (v .lines))) (latch .0),
-        three-clear (digit 0 (v .lines)) (digit 2 (v .lines)) (digit 3 (v .lines)) (digit 3 (v .flags)) (started .0),
+        not-true (digit 3 (v .flags) && not (digit 2 (v .lines))) (under-way .0),
         vcc .0,
-        not-true (digit 3 (v .flags)) (under-way .0),
+        not-true (digit 2 (v .lines) && (digit 3 (v .lines) && not (digit 3 (v .flags)))) (started .0),
         not-true (digit 6 (v .flags)) (matched .0),
         not-true (digit 5 (v .flags)) (matched .1),
       )
 
   pub plainly-sound : plainlySound v ≡ true → madeUpWord v ≡ false
-  unfolding plainlySound tested
+  unfolding plainlySound
   plainly-sound e =
-      let halves = both _ _ e in
-      let powered = both _ _ (halves .0) in
-      let rest = both _ _ (halves .1) in
-      let quiet = both _ _ (rest .0) in
-      let l = ltb-true (v .lines) 64 (powered .0) in
-      let f = ltb-true (v .flags) 32 (quiet .0) in
+      let lines = both _ _ e in
+      let flags = both _ _ (lines .1) in
+      let rest = both _ _ (flags .1) in
+      let l = ltb-true (v .lines) 64 (lines .0) in
+      let f = ltb-true (v .flags) 32 (flags .0) in
       clear-sound l f (leb-true (v .address) 1519 (rest .1))
-      (then (tested (v .lines) (v .flags)) (clear (v .lines) (v .flags)) (cleared-by (v .lines) (v .flags) l f) (rw (powered .1, quiet .1)))
+      (then (wired (v .lines) (v .flags)) (clear (v .lines) (v .flags)) (cleared-by (v .lines) (v .flags) l f) (rest .0))

@@ -1,5 +1,5 @@
 -- The volatile half as the code holds it: three words, with the flags and the latch as the digits of one.
-use Prim.Native.Nat.{ℕ, _+_, _*_, _/_, _%_}
+use Prim.Native.Nat.{ℕ, _+_, _*_}
 use mathlib.Core.Bool.{Bool, true, false, cond, not, _&&_, _||_}
 use mathlib.Core.List.{List}
 use lib.Dec.{eqb, ltb, leb}
@@ -59,11 +59,16 @@ unfoldable pub madeUpWord : Volatile → Bool
 unfolding unpacked
 madeUpWord v = ltb 127 (v .flags) || madeUp (unpacked v)
 
--- A powered half outside programming, match and E1, by a few tests of its words.
+-- Levels and flags of a powered half: latch and programming with CLK high alone, and programming where CLK and PGM are high.
+unfoldable pub wired : ℕ → ℕ → Bool
+wired lines flags =
+    eqb (bitAnd lines 1) 1 &&
+    ((eqb (bitAnd flags 24) 0 || not (eqb (bitAnd lines 4) 0)) && (not (eqb (bitAnd lines 12) 12) || not (eqb (bitAnd flags 8) 0)))
+
+-- A powered half outside match and E1, by a few tests of its words.
 unfoldable pub plainlySound : Volatile → Bool
-plainlySound v =
-    ltb (v .lines) 64 && (eqb (bitAnd (v .lines) 1) 1 && not (eqb (bitAnd (v .lines) 12) 12)) &&
-    (ltb (v .flags) 32 && (eqb (bitAnd (v .flags) 8) 0 && leb (v .flags / 16) (v .lines / 4 % 2)) && leb (v .address) 1519)
+unfolding wired
+plainlySound v = ltb (v .lines) 64 && (ltb (v .flags) 32 && (wired (v .lines) (v .flags) && leb (v .address) 1519))
 
 -- The things that a right may ask for and that are not there, as a mask.
 unfoldable pub lackingOf : Held → ℕ

@@ -342,15 +342,16 @@ impl Volatile {
         Operation::Nothing
     }
 
-    // A powered card outside programming, match and E1: what most steps start from.
+    // A powered card outside match and E1: what most steps start from.
     pub fn plainly_sound(self) -> bool
         ensures { λ r. ⌜ r ≡ plainlySound self ⌝ }
     {
         let lines = self.lines;
         let flags = self.flags;
-        let powered = (lines < 64) & ((lines & 1 == 1) & (lines & 12 != 12));
-        let quiet = (flags < 32) & ((flags & 8 == 0) & (flags / 16 <= lines / 4 % 2));
-        powered & (quiet & (self.address <= 1519))
+        let clocked = (flags & 24 == 0) | (lines & 4 != 0);
+        let started = (lines & 12 != 12) | (flags & 8 != 0);
+        let wired = (lines & 1 == 1) & (clocked & started);
+        (lines < 64) & ((flags < 32) & (wired & (self.address <= 1519)))
     }
 
     // 9: a made-up state.

@@ -15,16 +15,16 @@ returns-2 : tie.Need-returns-2
 unfolding stateNumber
 returns-2 c = rw (eq-eqb (length (now (c .before .before .before .args .image))) 174 (c .before .if1 .left), lt-ltb 7 (c .before .before .before .args .fuses) (c .if2 .taken))
 
-made-up-requires : tie.Need-made-up-requires
-made-up-requires c κs = search needs
+made-up-by-clause-requires : tie.Need-made-up-by-clause-requires
+made-up-by-clause-requires c κs = search needs
 
 returns-3 : tie.Need-returns-3
 unfolding stateNumber
-returns-3 c = rw (eq-eqb (length (now (c .before .before .before .before .before .args .image))) 174 (c .before .before .before .if1 .left), le-ltb 7 (c .before .before .before .before .before .args .fuses) (c .before .before .if2 .left), sym (c .before .made-up .ensures) ∙ c .if3 .taken)
+returns-3 c = rw (eq-eqb (length (now (c .before .before .before .before .before .args .image))) 174 (c .before .before .before .if1 .left), le-ltb 7 (c .before .before .before .before .before .args .fuses) (c .before .before .if2 .left), sym (c .before .made-up-by-clause .ensures) ∙ c .if3 .taken)
 
 returns-4 : tie.Need-returns-4
 unfolding stateNumber
-returns-4 c = rw (eq-eqb (length (now (c .before .before .before .before .before .args .image))) 174 (c .before .before .before .if1 .left), le-ltb 7 (c .before .before .before .before .before .args .fuses) (c .before .before .if2 .left), sym (c .before .made-up .ensures) ∙ c .if3 .left)
+returns-4 c = rw (eq-eqb (length (now (c .before .before .before .before .before .args .image))) 174 (c .before .before .before .if1 .left), le-ltb 7 (c .before .before .before .before .before .args .fuses) (c .before .before .if2 .left), sym (c .before .made-up-by-clause .ensures) ∙ c .if3 .left)
 
 pub state-number-spec : {M : Type 1} → statement M
-state-number-spec = tie.close (tie.spec returns returns-2 made-up-requires returns-3 returns-4)
+state-number-spec = tie.close (tie.spec returns returns-2 made-up-by-clause-requires returns-3 returns-4)

@@ -1,0 +1,20 @@
+use mathlib.Core.Path.{sym}
+use borrow.Author.Needs.{needs}
+use Rattle.card.proofs.NumberLaws.{numberless}
+use Rattle.card.proofs.numbers.quick_state_number.Statement.{statement}
+use Rattle.card.proofs.numbers.quick_state_number.Tie as tie
+
+plainly-sound-requires : tie.Need-plainly-sound-requires
+plainly-sound-requires c κs = search needs
+
+returns : tie.Need-returns
+returns c = sym (numberless _ _ _ (rw (c .before .plainly-sound .ensures) at (c .if1 .taken)))
+
+state-number-requires : tie.Need-state-number-requires
+state-number-requires c κs = search needs
+
+returns-2 : tie.Need-returns-2
+returns-2 c = search needs
+
+pub quick-state-number-spec : {M : Type 1} → statement M
+quick-state-number-spec = tie.close (tie.spec plainly-sound-requires returns state-number-requires returns-2)
