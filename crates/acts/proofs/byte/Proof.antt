@@ -1,19 +1,9 @@
-use mathlib.Core.Bool.{false}
-use mathlib.Core.Path.{_≡_, refl, sym, _∙_}
-use denote.Ref.{now}
-use Rattle.words.specs.Numbers.{numberOf}
-use Rattle.words.specs.declared.Number.the-variants.{Is, Not}
+use mathlib.Core.Path.{refl}
 use borrow.Author.Tests.{lt-ltb, le-ltb}
 use Rattle.acts.specs.Orders.{byteOrder}
 use borrow.Author.Needs.{needs}
 use Rattle.acts.proofs.byte.Statement.{statement}
 use Rattle.acts.proofs.byte.Tie as tie
-
-found : (c : tie.After-known-told) → numberOf false (now (c .before .before .before .before .before .before .args .object)) ≡ Is (c .before .at .given .0 .0)
-found c = sym (c .before .before .before .numeral .ensures) ∙ c .before .at .given .1
-
-missing : (c : tie.After-enum-told) → numberOf false (now (c .before .before .before .before .before .args .object)) ≡ Not
-missing c = sym (c .before .before .numeral .ensures) ∙ c .enum-told .given .1
 
 numeral-requires : tie.Need-numeral-requires
 numeral-requires c κs = search needs
@@ -26,11 +16,11 @@ enum-told c = search needs
 
 returns : tie.Need-returns
 unfolding byteOrder
-returns c = rw (missing c) refl
+returns c = rw (← c .before .before .numeral .ensures, c .enum-told .given .1) refl
 
 returns-2 : tie.Need-returns-2
 unfolding byteOrder
-returns-2 c = rw (found (c .before), lt-ltb _ _ (c .if1 .taken)) refl
+returns-2 c = rw (← c .before .before .before .before .numeral .ensures, c .before .before .at .given .1, lt-ltb _ _ (c .if1 .taken)) refl
 
 sub-bytes : tie.Need-sub-bytes
 sub-bytes c = search needs
@@ -40,7 +30,9 @@ bytes-requires c κs = search needs
 
 returns-3 : tie.Need-returns-3
 unfolding byteOrder
-returns-3 c = rw (found (c .before .before), le-ltb _ _ (c .before .if1 .left)) (c .bytes .ensures)
+returns-3 c =
+    let known = c .before .before .before in
+    rw (← known .before .before .numeral .ensures, known .at .given .1, le-ltb _ _ (c .before .if1 .left)) (c .bytes .ensures)
 
 pub byte-spec : {M : Type 1} → statement M
 byte-spec =

@@ -1,19 +1,9 @@
-use mathlib.Core.Bool.{true}
-use mathlib.Core.Path.{_≡_, refl, sym, _∙_}
-use denote.Ref.{now}
-use Rattle.words.specs.Numbers.{numberOf}
-use Rattle.words.specs.declared.Number.the-variants.{Is, Not}
+use mathlib.Core.Path.{refl}
 use borrow.Author.Tests.{eq-eqb, ne-eqb, lt-ltb, le-ltb}
 use Rattle.acts.specs.Orders.{bytesOrder}
 use borrow.Author.Needs.{needs}
 use Rattle.acts.proofs.bytes.Statement.{statement}
 use Rattle.acts.proofs.bytes.Tie as tie
-
-found : (c : tie.After-known-told) → numberOf true (now (c .before .before .before .before .before .args .w)) ≡ Is (c .before .value .given .0 .0)
-found c = sym (c .before .before .before .numeral .ensures) ∙ c .before .value .given .1
-
-missing : (c : tie.After-enum-told) → numberOf true (now (c .before .before .before .before .args .w)) ≡ Not
-missing c = sym (c .before .before .numeral .ensures) ∙ c .enum-told .given .1
 
 numeral-requires : tie.Need-numeral-requires
 numeral-requires c κs = search needs
@@ -26,19 +16,23 @@ enum-told c = search needs
 
 returns : tie.Need-returns
 unfolding bytesOrder
-returns c = rw (missing c) refl
+returns c = rw (← c .before .before .numeral .ensures, c .enum-told .given .1) refl
 
 returns-2 : tie.Need-returns-2
 unfolding bytesOrder
-returns-2 c = rw (found (c .before), eq-eqb _ _ (c .if1 .taken)) refl
+returns-2 c = rw (← c .before .before .before .before .numeral .ensures, c .before .before .value .given .1, eq-eqb _ _ (c .if1 .taken)) refl
 
 returns-3 : tie.Need-returns-3
 unfolding bytesOrder
-returns-3 c = rw (found (c .before .before), ne-eqb _ _ (c .before .if1 .left), lt-ltb _ _ (c .if2 .taken)) refl
+returns-3 c =
+    let known = c .before .before .before in
+    rw (← known .before .before .numeral .ensures, known .value .given .1, ne-eqb _ _ (c .before .if1 .left), lt-ltb _ _ (c .if2 .taken)) refl
 
 returns-4 : tie.Need-returns-4
 unfolding bytesOrder
-returns-4 c = rw (found (c .before .before), ne-eqb _ _ (c .before .if1 .left), le-ltb _ _ (c .if2 .left)) refl
+returns-4 c =
+    let known = c .before .before .before in
+    rw (← known .before .before .numeral .ensures, known .value .given .1, ne-eqb _ _ (c .before .if1 .left), le-ltb _ _ (c .if2 .left)) refl
 
 pub bytes-spec : {M : Type 1} → statement M
 bytes-spec =

@@ -1,19 +1,9 @@
-use mathlib.Core.Bool.{false}
-use mathlib.Core.Path.{_≡_, refl, sym, _∙_}
-use denote.Ref.{now}
-use Rattle.words.specs.Numbers.{numberOf}
-use Rattle.words.specs.declared.Number.the-variants.{Is, Not}
+use mathlib.Core.Path.{refl}
 use borrow.Author.Tests.{lt-ltb, le-ltb}
 use Rattle.acts.specs.Orders.{linesOrder}
 use borrow.Author.Needs.{needs}
 use Rattle.acts.proofs.lines.Statement.{statement}
 use Rattle.acts.proofs.lines.Tie as tie
-
-found : (c : tie.After-known-told) → numberOf false (now (c .before .before .before .before .before .args .w)) ≡ Is (c .before .n .given .0 .0)
-found c = sym (c .before .before .before .numeral .ensures) ∙ c .before .n .given .1
-
-missing : (c : tie.After-enum-told) → numberOf false (now (c .before .before .before .before .args .w)) ≡ Not
-missing c = sym (c .before .before .numeral .ensures) ∙ c .enum-told .given .1
 
 numeral-requires : tie.Need-numeral-requires
 numeral-requires c κs = search needs
@@ -26,18 +16,18 @@ enum-told c = search needs
 
 returns : tie.Need-returns
 unfolding linesOrder
-returns c = rw (missing c) refl
+returns c = rw (← c .before .before .numeral .ensures, c .enum-told .given .1) refl
 
 returns-2 : tie.Need-returns-2
 unfolding linesOrder
-returns-2 c = rw (found (c .before), lt-ltb _ _ (c .if1 .taken)) refl
+returns-2 c = rw (← c .before .before .before .before .numeral .ensures, c .before .before .n .given .1, lt-ltb _ _ (c .if1 .taken)) refl
 
 cast-t5 : tie.Need-cast-t5
 cast-t5 c = search needs
 
 returns-3 : tie.Need-returns-3
 unfolding linesOrder
-returns-3 c = rw (found (c .before), le-ltb _ _ (c .if1 .left)) refl
+returns-3 c = rw (← c .before .before .before .before .numeral .ensures, c .before .before .n .given .1, le-ltb _ _ (c .if1 .left)) refl
 
 pub lines-spec : {M : Type 1} → statement M
 lines-spec =

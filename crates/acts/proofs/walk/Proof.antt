@@ -1,18 +1,8 @@
-use mathlib.Core.Bool.{false}
-use mathlib.Core.Path.{_≡_, refl, sym, _∙_}
-use denote.Ref.{now}
-use Rattle.words.specs.Numbers.{numberOf}
-use Rattle.words.specs.declared.Number.the-variants.{Is, Not}
+use mathlib.Core.Path.{refl}
 use Rattle.acts.specs.Orders.{walkOrder}
 use borrow.Author.Needs.{needs}
 use Rattle.acts.proofs.walk.Statement.{statement}
 use Rattle.acts.proofs.walk.Tie as tie
-
-found : (c : tie.After-known-told) → numberOf false (now (c .before .before .before .before .before .args .w)) ≡ Is (c .before .n .given .0 .0)
-found c = sym (c .before .before .before .numeral .ensures) ∙ c .before .n .given .1
-
-missing : (c : tie.After-enum-told) → numberOf false (now (c .before .before .before .before .args .w)) ≡ Not
-missing c = sym (c .before .before .numeral .ensures) ∙ c .enum-told .given .1
 
 numeral-requires : tie.Need-numeral-requires
 numeral-requires c κs = search needs
@@ -25,11 +15,11 @@ enum-told c = search needs
 
 returns : tie.Need-returns
 unfolding walkOrder
-returns c = rw (missing c) refl
+returns c = rw (← c .before .before .numeral .ensures, c .enum-told .given .1) refl
 
 returns-2 : tie.Need-returns-2
 unfolding walkOrder
-returns-2 c = rw (found c) refl
+returns-2 c = rw (← c .before .before .before .numeral .ensures, c .before .n .given .1) refl
 
 pub walk-spec : {M : Type 1} → statement M
 walk-spec = tie.close (tie.spec numeral-requires enum-known-n enum-told returns returns-2)
