@@ -3,9 +3,8 @@ use mathlib.Core.Path.{_≡_}
 use native.Mathlib.Omega.{arith}
 use borrow.Author.Needs.{needs}
 use denote.Ref.{now}
-use mathlib.Core.Bool.{true, false}
-use lib.ListN.{length, getD, drop}
-use Rattle.words.specs.Scan.{stopsAt, aheadOf}
+use lib.ListN.{length, drop}
+use Rattle.words.specs.Scan.{aheadOf}
 use Rattle.words.proofs.Scans.{ahead-end, ahead-at}
 use Rattle.words.proofs.ahead.Statement.{statement}
 use Rattle.words.proofs.ahead.Tie as tie
@@ -29,8 +28,7 @@ returns : tie.Need-returns Inv-loop μ-loop
 returns c =
     let a = c .before .before .before .before .before .before .args in
     let i = c .before .before .before .before .loop .i in
-    let e : stopsAt (a .stop) (getD (now (a .s)) i 0) ≡ true = cc in
-    omega (arith, rw e at (ahead-at (now (a .s)) i (c .before .before .before .loop-test .taken) (a .stop)))
+    omega (arith, rw (← c .before .stops .ensures, c .if1 .taken) at (ahead-at (now (a .s)) i (c .before .before .before .loop-test .taken) (a .stop)))
 
 add-i : tie.Need-add-i Inv-loop μ-loop
 add-i c = omega arith
@@ -42,8 +40,7 @@ loop-again : tie.Need-loop-again Inv-loop μ-loop
 loop-again c =
     let a = c .before .before .before .before .before .before .args in
     let i = c .before .before .before .before .loop .i in
-    let e : stopsAt (a .stop) (getD (now (a .s)) i 0) ≡ false = cc in
-    omega (arith, rw e at (ahead-at (now (a .s)) i (c .before .before .before .loop-test .taken) (a .stop)))
+    omega (arith, rw (← c .before .stops .ensures, c .if1 .left) at (ahead-at (now (a .s)) i (c .before .before .before .loop-test .taken) (a .stop)))
 
 returns-2 : tie.Need-returns-2 Inv-loop μ-loop
 returns-2 c =
