@@ -1,5 +1,5 @@
 -- The masks that the code puts on the word, as what the edges do to the flags.
-use Prim.Native.Nat.{ℕ, _%_, _<_, _≤_}
+use Prim.Native.Nat.{ℕ, _%_, _≤_}
 use native.Mathlib.Omega.{arith}
 use native.Mathlib.Nat.{mod-lt}
 use native.Mathlib.Decide.{ℕ-discrete}
@@ -12,7 +12,7 @@ use borrow.Author.Tests.{ne-eqb, leb-true, lt-leb}
 use Rattle.memory.specs.Image.{digit, bit}
 use Rattle.memory.proofs.Below.{all, below, and-right}
 use Rattle.rules.specs.Halves.{EC-EN, unblown}
-use Rattle.rules.specs.Lines.{IO, PGM, high, place}
+use Rattle.rules.specs.Lines.{high, place}
 use Rattle.rules.specs.Zones.{between}
 use Rattle.rules.specs.Match.{arrived, endsMatch}
 use Rattle.rules.specs.Steps.{follows, clkRises, unlatched}

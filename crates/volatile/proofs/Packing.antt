@@ -5,13 +5,14 @@ use native.Mathlib.Nat.{mod-eq-of-lt, mod-lt}
 use native.Mathlib.Numerals.{add-one}
 use lib.Pow.{mod-pow-add, pow-pos}
 use mathlib.Core.Path.{_≡_, refl, sym, ap, _∙_}
-use mathlib.Core.Bool.{Bool, true, false, not, _&&_}
+use mathlib.Core.Bool.{Bool, true, false, Bool·beq}
 use lib.Dec.{eqb}
-use lib.Bits.{bitAnd, bitOr, and-mod, and-le-r}
+use lib.Bits.{bitAnd, and-mod, and-le-r}
 use borrow.Author.Tests.{eqb-true}
 use Rattle.memory.specs.Image.{digit}
 use Rattle.memory.proofs.Below.{all, below}
 use Rattle.rules.specs.Halves as Halves
+use Rattle.rules.proofs.Tests.{beq-true}
 use Rattle.volatile.specs.declared.Volatile.{Volatile}
 use Rattle.volatile.specs.Packed.{one, word, packed, unpacked}
 
@@ -27,13 +28,13 @@ digit-one false y = rw (even y)
     even : (x : ℕ) → (0 + 2 * x) % 2 ≡ 0
     even x = omega arith
 
+pub halves : (b : Bool) (y : ℕ) → (one b + 2 * y) / 2 ≡ y
+halves true y = omega arith
+halves false y = omega arith
+
 pub digit-rest : (b : Bool) (k y : ℕ) → digit (suc k) (one b + 2 * y) ≡ digit k y
 unfolding digit
-digit-rest b k y = rw (half b)
-  where
-    half : (t : Bool) → (one t + 2 * y) / 2 ≡ y
-    half true = omega arith
-    half false = omega arith
+digit-rest b k y = rw (halves b y)
 
 pub last-digit : (b : Bool) → digit zero (one b) ≡ b
 unfolding digit
@@ -128,6 +129,18 @@ pub mask-low : (w c x : ℕ) → c < 2 ^ w → bitAnd x c ≡ bitAnd (x % 2 ^ w)
 mask-low w c x h =
     let small : bitAnd x c < 2 ^ w = omega (arith, and-le-r x c) in
     sym (mod-eq-of-lt small) ∙ (and-mod x c w ∙ ap (λ (k : ℕ). bitAnd (x % 2 ^ w) k) (mod-eq-of-lt h))
+
+-- Two tests that agree at each number below k.
+pub agree-below :
+    (k : ℕ) (f g : ℕ → Bool) → all k (λ (n : ℕ). Bool·beq (f n) (g n)) ≡ true → (n : ℕ) → n < k → f n ≡ g n
+agree-below k f g t n h = beq-true (f n) (g n) (below k (λ (y : ℕ). Bool·beq (f y) (g y)) t n h)
+
+-- A test of what a mask below 2 ^ w leaves, as a test of the lowest digits.
+pub masked-test :
+    (w c : ℕ) (f g : ℕ → Bool) → c < 2 ^ w → all (2 ^ w) (λ (n : ℕ). Bool·beq (f (bitAnd n c)) (g n)) ≡ true → (x : ℕ) →
+    f (bitAnd x c) ≡ g (x % 2 ^ w)
+masked-test w c f g h t x =
+    ap f (mask-low w c x h) ∙ agree-below (2 ^ w) (λ (n : ℕ). f (bitAnd n c)) g t (x % 2 ^ w) (mod-lt x (pow-pos w))
 
 -- A number of the seven flags.
 abbrev pub OfFlags : Type 0

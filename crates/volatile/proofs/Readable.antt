@@ -1,21 +1,19 @@
 -- The rights to read that need no table.
-use Prim.Native.Nat.{ℕ, _%_, _≤_, _<_}
+use Prim.Native.Nat.{ℕ, _≤_, _<_}
 use native.Mathlib.Omega.{arith}
-use native.Mathlib.Nat.{mod-lt}
 use native.Mathlib.Decide.{decLt}
-use mathlib.Core.Path.{_≡_, refl, ap, _∙_}
-use mathlib.Core.Bool.{Bool, true, false, cond, not, _&&_, _||_, Bool·beq}
+use mathlib.Core.Path.{_≡_, refl, _∙_}
+use mathlib.Core.Bool.{Bool, true, false, cond, not, _&&_, _||_}
 use lib.Dec.{eqb, leb, ltb}
 use lib.Bits.{bitAnd}
 use borrow.Author.Tests.{le-leb, lt-leb, lt-ltb, le-ltb}
 use Rattle.memory.specs.Image.{digit}
-use Rattle.memory.proofs.Below.{all, below}
+use Rattle.memory.proofs.Below.{all}
 use Rattle.rules.specs.declared.Zone.the-variants.{FZ, IZ, SCAC, CPZ, AZ, EC, MTZ, MFZ}
 use Rattle.rules.specs.declared.Zone.the-variants.{Block, FuseMF, FuseECEN, FuseISS, Gap}
 use Rattle.rules.specs.Zones.{zone}
 use Rattle.rules.specs.Rights.{Held, level1, granted, rights, mayRead}
-use Rattle.rules.proofs.Tests.{beq-true}
-use Rattle.volatile.proofs.Packing.{digit-low, mask-low}
+use Rattle.volatile.proofs.Packing.{digit-low, masked-test}
 
 -- FZ and IZ are always read, AZ with SV or R1.
 pub low-readable : (h : Held) (b : ℕ) → b ≤ 79 → mayRead h (zone b) ≡ true
@@ -114,7 +112,5 @@ high-readable h b k =
 pub sv-or-r1 : (x : ℕ) → not (eqb (bitAnd x 5) 0) ≡ (digit 0 x || digit 2 x)
 unfolding all digit
 sv-or-r1 x =
-    ap (λ (y : ℕ). not (eqb y 0)) (mask-low 3 5 x (omega arith)) ∙
-    (beq-true (not (eqb (bitAnd (x % 8) 5) 0)) (digit 0 (x % 8) || digit 2 (x % 8))
-    (below 8 (λ (y : ℕ). Bool·beq (not (eqb (bitAnd y 5) 0)) (digit 0 y || digit 2 y)) refl (x % 8) (mod-lt x (omega arith))) ∙
-    rw (digit-low 3 0 x (omega arith), digit-low 3 2 x (omega arith)))
+    masked-test 3 5 (λ (y : ℕ). not (eqb y 0)) (λ (y : ℕ). digit 0 y || digit 2 y) (omega arith) refl x ∙
+    rw (digit-low 3 0 x (omega arith), digit-low 3 2 x (omega arith))

@@ -9,7 +9,7 @@ use lib.Dec.{eqb, ltb}
 use lib.Bits.{bitAnd, and-step, and-zero-l}
 use borrow.Author.Tests.{ltb-false, eq-eqb, ne-eqb}
 use Rattle.memory.specs.Image.{digit, bit}
-use Rattle.memory.proofs.Below.{all, below}
+use Rattle.memory.proofs.Below.{all}
 use Rattle.rules.specs.Lines.{VCC, RST, PGM, high, place}
 use Rattle.rules.specs.Rights.{Held, held, level1, met, granted}
 use Rattle.rules.specs.Zones.{between, zone, isFuse}
@@ -19,10 +19,9 @@ use Rattle.rules.specs.Halves.{EC-EN, unblown}
 use Rattle.rules.specs.Halves as Halves
 use Rattle.rules.specs.Programming.{asks, mayProgram, effect, operation}
 use Rattle.rules.specs.Steps.{driven, pin}
-use Rattle.rules.proofs.Tests.{beq-true}
 use Rattle.volatile.specs.declared.Volatile.{Volatile}
 use Rattle.volatile.specs.Packed.{one, lackingOf, unpacked, cardOf, madeUpWord, mayProgramNow, operationNow}
-use Rattle.volatile.proofs.Packing.{digit-one, last-digit, digit-low, mask-low}
+use Rattle.volatile.proofs.Packing.{digit-one, halves, last-digit, digit-low, agree-below, masked-test}
 
 as-one : (b : Bool) (m : ℕ) → cond b 0 m ≡ m * one (not b)
 as-one true m = omega arith
@@ -43,11 +42,10 @@ any-flag :
     (x : ℕ) → x < 128 →
     not (eqb x 0) ≡ (digit 0 x || (digit 1 x || (digit 2 x || (digit 5 x || (digit 6 x || (digit 4 x || digit 3 x))))))
 unfolding all digit
-any-flag x h =
-    beq-true (not (eqb x 0)) (digit 0 x || (digit 1 x || (digit 2 x || (digit 5 x || (digit 6 x || (digit 4 x || digit 3 x))))))
-    (below 128
-    (λ (y : ℕ). Bool·beq (not (eqb y 0)) (digit 0 y || (digit 1 y || (digit 2 y || (digit 5 y || (digit 6 y || (digit 4 y || digit 3 y)))))))
-    refl x h)
+any-flag =
+    agree-below 128 (λ (y : ℕ). not (eqb y 0))
+    (λ (y : ℕ). digit 0 y || (digit 1 y || (digit 2 y || (digit 5 y || (digit 6 y || (digit 4 y || digit 3 y))))))
+    refl
 
 -- No digit is set in both numbers, of the lowest k.
 unfoldable apart-in : ℕ → ℕ → ℕ → Bool
@@ -86,10 +84,6 @@ asked-met true true = refl
 asked-met true false = refl
 asked-met false t = refl
 
-halves : (b : Bool) (y : ℕ) → (one b + 2 * y) / 2 ≡ y
-halves true y = omega arith
-halves false y = omega arith
-
 -- One thing that may be asked for, against a mask of what is missing from there on.
 peeled :
     (k a y : ℕ) (t rest : Bool) → apart-in k (a / 2) y ≡ rest → apart-in (suc k) a (one (not t) + 2 * y) ≡ (met (digit 0 a) t && rest)
@@ -119,34 +113,23 @@ granted-mask asked small h =
     (peeled 1 (asked / 2 / 2 / 2 / 2 / 2 / 2) _ (h .fus) _ (peeled-last (asked / 2 / 2 / 2 / 2 / 2 / 2 / 2) (h .sv || h .r1)))))))) ∙
     never-met (digit 0 asked) _)
 
--- The state check as the code puts it together.
-pub checked-together :
-    (v : Volatile) →
-    (ltb 127 (v .flags) ||
-    (ltb 63 (v .lines) ||
+-- The tests of the state check after the first, as the code puts them together.
+abbrev pub later-tests : Volatile → Bool
+later-tests v =
+    ltb 63 (v .lines) ||
     (ltb 1519 (v .address) ||
     (not (digit 0 (v .lines)) && (not (eqb (v .address) 0) || not (eqb (v .flags) 0)) ||
     (digit 4 (v .flags) && not (digit 2 (v .lines)) ||
     (digit 3 (v .flags) && not (digit 2 (v .lines)) ||
     (digit 0 (v .lines) && (digit 2 (v .lines) && (digit 3 (v .lines) && not (digit 3 (v .flags)))) ||
     (digit 6 (v .flags) && not (between 81 103 (v .address) || between 1201 1359 (v .address)) ||
-    digit 5 (v .flags) && not (between 1232 1519 (v .address)))))))))) ≡
-    madeUpWord v
+    digit 5 (v .flags) && not (between 1232 1519 (v .address))))))))
+
+pub checked-together : (v : Volatile) → (ltb 127 (v .flags) || later-tests v) ≡ madeUpWord v
 unfolding madeUpWord madeUp unpacked anySet high place
 checked-together v = go (ltb 127 (v .flags)) refl
   where
-    go :
-        (t : Bool) → ltb 127 (v .flags) ≡ t →
-        (t ||
-        (ltb 63 (v .lines) ||
-        (ltb 1519 (v .address) ||
-        (not (digit 0 (v .lines)) && (not (eqb (v .address) 0) || not (eqb (v .flags) 0)) ||
-        (digit 4 (v .flags) && not (digit 2 (v .lines)) ||
-        (digit 3 (v .flags) && not (digit 2 (v .lines)) ||
-        (digit 0 (v .lines) && (digit 2 (v .lines) && (digit 3 (v .lines) && not (digit 3 (v .flags)))) ||
-        (digit 6 (v .flags) && not (between 81 103 (v .address) || between 1201 1359 (v .address)) ||
-        digit 5 (v .flags) && not (between 1232 1519 (v .address)))))))))) ≡
-        (t || madeUp (unpacked v))
+    go : (t : Bool) → ltb 127 (v .flags) ≡ t → (t || later-tests v) ≡ (t || madeUp (unpacked v))
     go true e = refl
     go false e =
         let small : v .flags < 128 = omega (arith, ltb-false 127 (v .flags) e) in
@@ -156,11 +139,8 @@ checked-together v = go (ltb 127 (v .flags)) refl
 pub lines-ready : (l : ℕ) → eqb (bitAnd l 11) 1 ≡ (high VCC l && (not (high RST l) && not (high PGM l)))
 unfolding high place all digit
 lines-ready l =
-    ap (λ (x : ℕ). eqb x 1) (mask-low 4 11 l (omega arith)) ∙
-    (beq-true (eqb (bitAnd (l % 16) 11) 1) (digit 0 (l % 16) && (not (digit 1 (l % 16)) && not (digit 3 (l % 16))))
-    (below 16 (λ (x : ℕ). Bool·beq (eqb (bitAnd x 11) 1) (digit 0 x && (not (digit 1 x) && not (digit 3 x)))) refl (l % 16)
-    (mod-lt l (omega arith))) ∙
-    rw (digit-low 4 0 l (omega arith), digit-low 4 1 l (omega arith), digit-low 4 3 l (omega arith)))
+    masked-test 4 11 (λ (x : ℕ). eqb x 1) (λ (x : ℕ). digit 0 x && (not (digit 1 x) && not (digit 3 x))) (omega arith) refl l ∙
+    rw (digit-low 4 0 l (omega arith), digit-low 4 1 l (omega arith), digit-low 4 3 l (omega arith))
 
 module _ (l : ℕ) (rest : Bool) where
   pub not-ready : (bitAnd l 11 ≡ 1 → ⊥) → (high VCC l && (not (high RST l) && (not (high PGM l) && rest))) ≡ false

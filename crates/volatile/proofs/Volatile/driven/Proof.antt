@@ -1,5 +1,4 @@
 use mathlib.Core.Path.{sym, _∙_}
-use mathlib.Core.Bool.{_&&_, not, false}
 use Rattle.rules.specs.Steps.{driven}
 use Rattle.volatile.specs.Packed.{unpacked}
 use Rattle.volatile.proofs.Sums.{not-ready, ready}

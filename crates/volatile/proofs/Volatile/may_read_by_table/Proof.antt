@@ -1,7 +1,6 @@
 use Prim.Native.Nat.{_<_}
 use Rattle.rules.specs.Zones.{zone}
 use Rattle.volatile.specs.Packed.{unpacked}
-use mathlib.Core.Path.{ap}
 use native.Mathlib.Omega.{arith}
 use Rattle.rules.specs.Rights.{held, level1, rights, mayRead}
 use Rattle.volatile.proofs.Sums.{granted-mask}
