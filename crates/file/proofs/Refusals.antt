@@ -23,7 +23,7 @@ chain false false false false true more = refl
 chain false false false false false more = refl
 
 -- 10 to 14 come first; the later checks count only where these give 0.
-parts-first :
+pub parts-first :
     (file : List ℕ) (room more : ℕ)
     → partsRefusal file room more ≡ cond (eqb (partsRefusal file room 0) 0) more (partsRefusal file room 0)
 unfolding partsRefusal
@@ -35,25 +35,6 @@ parts-first file room more =
     (not (eqb (count file 176) 1))
     (ltb 7 (fuseSection file))
     more
-
-pub card-first :
-    (file : List ℕ) (room : ℕ)
-    → cardRefusal file room ≡ cond (eqb (partsRefusal file room 0) 0) (cond (eqb (length file) 179) 0 17) (partsRefusal file room 0)
-unfolding cardRefusal
-card-first file room = parts-first file room (cond (eqb (length file) 179) 0 17)
-
-pub session-first :
-    (file : List ℕ) (room : ℕ)
-    → sessionRefusal file room
-    ≡ cond (eqb (partsRefusal file room 0) 0)
-    (cond (ltb (length file) 181) 15
-    (cond (ltb longest (count file 179)) 16 (cond (eqb (length file) (181 + count file 179)) 0 17)))
-    (partsRefusal file room 0)
-unfolding sessionRefusal
-session-first file room =
-    parts-first file room
-    (cond (ltb (length file) 181) 15
-    (cond (ltb longest (count file 179)) 16 (cond (eqb (length file) (181 + count file 179)) 0 17)))
 
 -- What holds where nothing is refused.
 pub record Whole (file : List ℕ) (room : ℕ) : Type 0 where
