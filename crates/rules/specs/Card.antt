@@ -1,6 +1,6 @@
 -- 01, "Numbers a caller can get" and the demands: a step and a run, for every image, state and list of steps.
 use Prim.Native.Nat.{ℕ}
-use mathlib.Core.Bool.{Bool, true, false, cond}
+use mathlib.Core.Bool.{cond}
 use mathlib.Core.List.{List, [], _∷_, _++_}
 use lib.Dec.{eqb}
 use lib.Count.{onesIn}

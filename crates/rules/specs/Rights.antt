@@ -1,14 +1,13 @@
 -- 01, "Rights (004, tables 1 and 2)": what an access asks for, and what is there.
 use Prim.Native.Nat.{ℕ, _+_}
-use mathlib.Core.Bool.{Bool, true, false, cond, not, _&&_, _||_}
+use mathlib.Core.Bool.{Bool, true, false, not, _&&_, _||_}
 use mathlib.Core.List.{List, [], _∷_, _++_}
-use lib.Dec.{eqb}
 use lib.ListN.{getD}
 use Rattle.memory.specs.Image.{digit}
 use Rattle.rules.specs.declared.Right.{Right}
 use Rattle.rules.specs.declared.Zone.{Zone}
-use Rattle.rules.specs.Halves.{Fuse, MF, EC-EN, ISS, unblown, Volatile}
-use Rattle.rules.specs.Lines.{Line, FUS, high}
+use Rattle.rules.specs.Halves.{MF, ISS, unblown, Volatile}
+use Rattle.rules.specs.Lines.{FUS, high}
 use Rattle.rules.specs.Zones.{row}
 
 -- What a right may ask for, as the digits of a mask. A mask is a sum of these: all of them must be there.

@@ -1,11 +1,10 @@
 -- 01, "Steps": what each edge of a line does, and the pin's answer.
 use Prim.Native.Nat.{ℕ}
-use mathlib.Core.Bool.{Bool, true, false, cond, not, _&&_, _||_}
-use mathlib.Core.List.{List}
+use mathlib.Core.Bool.{Bool, false, cond, not, _&&_, _||_}
 use Rattle.memory.specs.Image.{bit}
 use Rattle.rules.specs.declared.Operation.{Operation}
 use Rattle.rules.specs.Halves.{Volatile, Card, off, EC-EN, unblown}
-use Rattle.rules.specs.Lines.{Line, VCC, RST, CLK, PGM, IO, FUS, high, Edge, Same, Rises, Falls, Many, edge}
+use Rattle.rules.specs.Lines.{VCC, RST, CLK, PGM, IO, FUS, high, Edge, Same, Rises, Falls, Many, edge}
 use Rattle.rules.specs.Zones.{zone}
 use Rattle.rules.specs.Rights.{held, level1, mayRead}
 use Rattle.rules.specs.Programming.{operation, memoryAfter, fusesAfter, opens, keyOpens}
