@@ -4,7 +4,7 @@ use mathlib.Core.Bool.{Bool, true, cond}
 use mathlib.Core.List.{List, [], _∷_, _++_}
 use lib.Dec.{eqb, leb}
 use lib.ListN.{take}
-use Rattle.rules.specs.Lines.{VCC, CLK, PGM, IO, FUS, mask}
+use Rattle.rules.specs.Lines.{CLK, PGM, IO, FUS, mask}
 use Rattle.rules.specs.Maker.{io, idle, reset, walk, show, program, blow, open-card, walkRefusal, openRefusal}
 use Rattle.acts.specs.declared.Act.{Act}
 use Rattle.acts.specs.declared.Act.the-variants.{Power, Fus, Lines, Cut, Reset, Walk, Show16, Show32, Open, Program, Blow}
