@@ -24,6 +24,16 @@ fn programming(lines: u8, address: u16) -> Volatile {
     }
 }
 
+/// A run that has done no step, and so hands back what it was given.
+fn nothing_done(fuses: u8, volatile: Volatile, refusal: u8) -> RunResult {
+    RunResult {
+        fuses,
+        volatile,
+        done: 0,
+        refusal,
+    }
+}
+
 /// The answer to a step; checks that a refused one changes nothing.
 fn answer(volatile: Volatile, next: u8) -> Result<u8, u8> {
     let mut memory = [0x5A; 174];
@@ -156,15 +166,7 @@ fn number_9() {
         assert_eq!(answer(volatile, 255), Err(9));
         let mut answers = [9];
         let ran = run(&mut [0; 174], 7, volatile, &[], &mut answers);
-        assert_eq!(
-            ran,
-            RunResult {
-                fuses: 7,
-                volatile,
-                done: 0,
-                refusal: 9
-            }
-        );
+        assert_eq!(ran, nothing_done(7, volatile, 9));
     }
     let accepted = [
         state(62, 0),
@@ -210,15 +212,7 @@ fn numbers_10_and_14_come_first() {
             }
         );
         let result = run(&mut memory, 9, made_up, &[64; 5000], &mut []);
-        assert_eq!(
-            result,
-            RunResult {
-                fuses: 9,
-                volatile: made_up,
-                done: 0,
-                refusal: 10
-            }
-        );
+        assert_eq!(result, nothing_done(9, made_up, 10));
         let result = run(&mut memory, 7, state(IDLE, 0), &[], &mut []);
         assert_eq!((result.done, result.refusal), (0, 10));
         assert_eq!(tries_left(&memory), Err(10));
@@ -236,26 +230,10 @@ fn numbers_10_and_14_come_first() {
             }
         );
         let result = run(&mut memory, fuses, made_up, &[64; 5000], &mut []);
-        assert_eq!(
-            result,
-            RunResult {
-                fuses,
-                volatile: made_up,
-                done: 0,
-                refusal: 14
-            }
-        );
+        assert_eq!(result, nothing_done(fuses, made_up, 14));
     }
     let result = run(&mut memory, 7, made_up, &[64; 5000], &mut []);
-    assert_eq!(
-        result,
-        RunResult {
-            fuses: 7,
-            volatile: made_up,
-            done: 0,
-            refusal: 9
-        }
-    );
+    assert_eq!(result, nothing_done(7, made_up, 9));
     assert_eq!(step(&mut memory, 7, state(IDLE, 0), IDLE).answer, Ok(0));
     assert_eq!(tries_left(&memory), Ok(0));
     memory[11..14].copy_from_slice(&[255, 0b0110_0001, 255]);
@@ -274,15 +252,7 @@ fn numbers_18_and_19() {
 
     let mut answers = [9; 5000];
     let result = run(&mut memory, 7, idle, &[IDLE; 4097], &mut answers);
-    assert_eq!(
-        result,
-        RunResult {
-            fuses: 7,
-            volatile: idle,
-            done: 0,
-            refusal: 18
-        }
-    );
+    assert_eq!(result, nothing_done(7, idle, 18));
     assert_eq!(answers, [9; 5000]);
     let result = run(&mut memory, 7, idle, &[IDLE; 4097], &mut []);
     assert_eq!(result.refusal, 18);
@@ -290,15 +260,7 @@ fn numbers_18_and_19() {
     let steps = [IDLE + 4, IDLE, IDLE + 4];
     let mut answers = [9; 2];
     let result = run(&mut memory, 7, idle, &steps, &mut answers);
-    assert_eq!(
-        result,
-        RunResult {
-            fuses: 7,
-            volatile: idle,
-            done: 0,
-            refusal: 19
-        }
-    );
+    assert_eq!(result, nothing_done(7, idle, 19));
     assert_eq!(answers, [9; 2]);
     let mut answers = [9; 3];
     let result = run(&mut memory, 7, idle, &steps, &mut answers);
@@ -310,15 +272,7 @@ fn numbers_18_and_19() {
     // Even if the steps would be refused before the answers run out.
     assert_eq!(run(&mut memory, 7, idle, &[64, 64], &mut [9]).refusal, 19);
     let result = run(&mut memory, 7, idle, &[], &mut []);
-    assert_eq!(
-        result,
-        RunResult {
-            fuses: 7,
-            volatile: idle,
-            done: 0,
-            refusal: 0
-        }
-    );
+    assert_eq!(result, nothing_done(7, idle, 0));
 }
 
 #[test]
