@@ -2,7 +2,7 @@
 
 mod common;
 
-use common::{bit, set_bit, Host, IDLE, IDLE_FUS};
+use common::{bit, session_file, set_bit, Host, IDLE, IDLE_FUS};
 use model::{maker, session, state_check, tries_left, Card, Flags, Volatile};
 
 const CODE: u16 = 0xA51C;
@@ -28,15 +28,6 @@ fn sv() -> Volatile {
 
 fn matched() -> Volatile {
     with(|v| v.matched = true)
-}
-
-fn session_file(memory: &[u8; 174], fuses: u8, steps: &[u8]) -> Vec<u8> {
-    let mut bytes = vec![174, 0];
-    bytes.extend(memory);
-    bytes.extend([1, 0, fuses]);
-    bytes.extend((steps.len() as u16).to_le_bytes());
-    bytes.extend(steps);
-    bytes
 }
 
 #[test]

@@ -2,7 +2,7 @@
 
 mod common;
 
-use common::{IDLE, IDLE_FUS};
+use common::{card_file, session_file, IDLE, IDLE_FUS};
 use model::{
     flags, maker, open_card_file, open_session, run, session, state_check, step, step_section,
     tries_left, RunResult, StepResult, Volatile,
@@ -298,18 +298,13 @@ fn a_run_stops_at_the_first_refused_step() {
     assert_eq!(answers, [0, 1, 1, 9, 9, 9]);
 }
 
-fn card_file() -> Vec<u8> {
-    let mut bytes = vec![174, 0];
-    bytes.extend((0..174).map(|byte| byte as u8));
-    bytes.extend([1, 0, 7]);
-    bytes
+/// A memory whose bytes all differ.
+fn memory() -> [u8; 174] {
+    std::array::from_fn(|byte| byte as u8)
 }
 
-fn session_file(steps: &[u8]) -> Vec<u8> {
-    let mut bytes = card_file();
-    bytes.extend((steps.len() as u16).to_le_bytes());
-    bytes.extend(steps);
-    bytes
+fn session_of(steps: &[u8]) -> Vec<u8> {
+    session_file(&memory(), 7, steps)
 }
 
 /// Opens as a card file and as a session; checks what the buffer holds.
@@ -344,11 +339,11 @@ fn the_openers() {
         bytes[at] = value;
         bytes
     };
-    let card = card_file();
-    let session = session_file(&[1, 2, 3]);
+    let card = card_file(&memory(), 7);
+    let session = session_of(&[1, 2, 3]);
     assert_eq!(open(&card), (Ok(7), Err(15)));
     assert_eq!(open(&session), (Err(17), Ok((7, 3))));
-    assert_eq!(open(&session_file(&[])), (Err(17), Ok((7, 0))));
+    assert_eq!(open(&session_of(&[])), (Err(17), Ok((7, 0))));
 
     // 10, before all else.
     for length in [0, 173, 175] {
@@ -385,8 +380,8 @@ fn the_openers() {
     assert_eq!(open(&session[..180]), (Err(17), Err(15)));
     assert_eq!(open(&session[..181]), (Err(17), Err(17)));
     // 16: a count over 4,096, before 17.
-    assert_eq!(open(&session_file(&[0; 4096])), (Err(17), Ok((7, 4096))));
-    assert_eq!(open(&session_file(&[0; 4097])), (Err(17), Err(16)));
+    assert_eq!(open(&session_of(&[0; 4096])), (Err(17), Ok((7, 4096))));
+    assert_eq!(open(&session_of(&[0; 4097])), (Err(17), Err(16)));
     assert_eq!(
         open(&changed(session.clone(), 180, 255)),
         (Err(17), Err(16))
@@ -399,7 +394,7 @@ fn the_openers() {
 
 #[test]
 fn the_step_section_is_a_part_of_the_callers_bytes() {
-    let bytes = session_file(&[16, 17, 21]);
+    let bytes = session_of(&[16, 17, 21]);
     let steps = step_section(&bytes);
     assert_eq!(steps.as_ptr(), bytes[181..].as_ptr());
     assert_eq!(steps, [16, 17, 21]);

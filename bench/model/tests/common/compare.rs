@@ -2,7 +2,9 @@
 //! sessions; each tells whether the two agree.
 
 use super::plain::{self, Act, Plain};
-use super::{random_memory, random_sound, random_step, random_volatile, Chance};
+use super::{
+    card_file, random_memory, random_sound, random_step, random_volatile, session_file, Chance,
+};
 use model::{
     maker, open_card_file, open_session, run, session, state_check, step, step_section, StepResult,
     Volatile,
@@ -166,16 +168,14 @@ pub fn same_act(chance: &mut Chance) -> bool {
 /// Whether the two agree on a file.
 pub fn same_file(chance: &mut Chance) -> bool {
     let memory = random_memory(chance);
-    let mut bytes = vec![174, 0];
-    bytes.extend(memory);
-    bytes.extend([1, 0, chance.byte() % if chance.one_in(10) { 9 } else { 8 }]);
+    let fuses = chance.byte() % if chance.one_in(10) { 9 } else { 8 };
+    let mut bytes = card_file(&memory, fuses);
     if !chance.one_in(8) {
         let mut steps = random_steps(chance, &memory);
         if chance.one_in(20) {
             steps.resize(4094 + chance.below(5), 16);
         }
-        bytes.extend((steps.len() as u16).to_le_bytes());
-        bytes.extend(steps);
+        bytes = session_file(&memory, fuses, &steps);
     }
     match chance.below(10) {
         0 => bytes.truncate(176 + chance.below(10)),

@@ -1,5 +1,5 @@
-//! What the tests share: chance, a host that drives a card by the maker's
-//! acts, and a plain card to compare with.
+//! What the tests share: files, chance, a host that drives a card by the
+//! maker's acts, and a plain card to compare with.
 
 #![allow(dead_code)]
 
@@ -12,6 +12,20 @@ use model::{lines, maker, state_check, Card, Volatile};
 pub const IDLE: u8 = lines::VCC | lines::IO;
 /// Idle with FUS high.
 pub const IDLE_FUS: u8 = IDLE | lines::FUS;
+
+pub fn card_file(memory: &[u8; 174], fuses: u8) -> Vec<u8> {
+    let mut bytes = vec![174, 0];
+    bytes.extend(memory);
+    bytes.extend([1, 0, fuses]);
+    bytes
+}
+
+pub fn session_file(memory: &[u8; 174], fuses: u8, steps: &[u8]) -> Vec<u8> {
+    let mut bytes = card_file(memory, fuses);
+    bytes.extend((steps.len() as u16).to_le_bytes());
+    bytes.extend(steps);
+    bytes
+}
 
 /// A small generator of numbers.
 pub struct Chance(u64);
