@@ -1,7 +1,7 @@
 use mathlib.Core.Path.{refl}
 use native.Mathlib.Omega.{arith}
 use Rattle.maker.proofs.Acting.{short, wrote}
-use Rattle.maker.proofs.Lists.{length-blow}
+use Rattle.rules.proofs.MakerLaws.{length-blow}
 use borrow.Author.Needs.{needs}
 use Rattle.maker.proofs.blow.Statement.{statement}
 use Rattle.maker.proofs.blow.Tie as tie

@@ -2,7 +2,7 @@ use mathlib.Core.Path.{refl}
 use native.Mathlib.Omega.{arith}
 use Rattle.rules.specs.Maker.{program}
 use Rattle.maker.proofs.Acting.{short, wrote}
-use Rattle.maker.proofs.Lists.{length-program}
+use Rattle.rules.proofs.MakerLaws.{length-program}
 use borrow.Author.Needs.{needs}
 use Rattle.maker.proofs.program.Statement.{statement}
 use Rattle.maker.proofs.program.Tie as tie

@@ -3,7 +3,7 @@ use native.Mathlib.Omega.{arith}
 use Rattle.rules.specs.Maker.{reset}
 use Rattle.maker.specs.Placed.{pulse}
 use Rattle.maker.proofs.Acting.{short, wrote}
-use Rattle.maker.proofs.Lists.{length-reset}
+use Rattle.rules.proofs.MakerLaws.{length-reset}
 use borrow.Author.Needs.{needs}
 use Rattle.maker.proofs.reset.Statement.{statement}
 use Rattle.maker.proofs.reset.Tie as tie

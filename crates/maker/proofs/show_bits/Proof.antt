@@ -2,7 +2,7 @@ use Prim.Native.Nat.{_+_, _*_}
 use mathlib.Core.Path.{refl}
 use native.Mathlib.Omega.{arith}
 use Rattle.maker.proofs.Acting.{short, wrote}
-use Rattle.maker.proofs.Lists.{length-show}
+use Rattle.rules.proofs.MakerLaws.{length-show}
 use borrow.Author.Needs.{needs}
 use Rattle.maker.proofs.show_bits.Statement.{statement}
 use Rattle.maker.proofs.show_bits.Tie as tie

@@ -4,7 +4,7 @@ use native.Mathlib.Omega.{arith}
 use borrow.Author.Tests.{lt-ltb, le-ltb}
 use Rattle.rules.specs.Maker.{walkRefusal}
 use Rattle.maker.proofs.Acting.{barred, short, wrote}
-use Rattle.maker.proofs.Lists.{length-walk}
+use Rattle.rules.proofs.MakerLaws.{length-walk}
 use borrow.Author.Needs.{needs}
 use Rattle.maker.proofs.walk.Statement.{statement}
 use Rattle.maker.proofs.walk.Tie as tie
