@@ -10,6 +10,7 @@ use lib.ListN.{length}
 use Rattle.memory.specs.Image.{bytes}
 use Rattle.rules.specs.Refusals.{longest}
 use Rattle.rules.specs.File.{count, fuseSection, stepCount, partsRefusal, cardRefusal, sessionRefusal}
+use Rattle.rules.proofs.Tests.{peel}
 
 chain :
     (a b c d e : Bool) (more : ℕ)
@@ -47,11 +48,7 @@ pub record WholeSession (file : List ℕ) (room : ℕ) : Type 0 where
   pub few : stepCount file ≤ longest
   pub counted : length file ≡ 181 + stepCount file
 
--- A chain that comes to 0 passed its first test, and its last one.
-peel : (t : Bool) (k r : ℕ) → cond t (suc k) r ≡ 0 → (t ≡ false) × (r ≡ 0)
-peel true k r e = absurd (not-suc-le-zero (le-of-eq e))
-peel false k r e = (refl, e)
-
+-- A chain that comes to 0 passed its last test.
 ends : (t : Bool) (k : ℕ) → cond t 0 (suc k) ≡ 0 → t ≡ true
 ends true k e = refl
 ends false k e = absurd (not-suc-le-zero (le-of-eq e))
