@@ -9,7 +9,7 @@
 mod lines;
 
 use lines::Line;
-use model::{Volatile, MOST_STEPS};
+use model::MOST_STEPS;
 use std::hint::black_box;
 use std::process::ExitCode;
 use std::time::Instant;
@@ -23,72 +23,67 @@ enum Way {
 
 const WAYS: [(&str, Way); 3] = [("run", Way::Run), ("step", Way::Step), ("thin", Way::Thin)];
 
-/// The card from power up through all steps, by the library. What comes out is
-/// handed back so that both sides can be held together.
-fn card(line: &Line, way: Way, answers: &mut [u8]) -> ([u8; 174], u8, u64) {
+/// What comes out, handed back so that both sides can be held together: the
+/// image, the fuse byte, and answers added up.
+type Outcome = ([u8; 174], u8, u64);
+
+/// A side: the card from power up through all steps, by the calls of a crate.
+macro_rules! side {
+    ($side:ident, $calls:ident, $fresh:ident, $thin:ident) => {
+        fn $side(line: &Line, way: Way, answers: &mut [u8]) -> Outcome {
+            let mut memory = line.memory;
+            let mut fuses = line.fuses;
+            let mut half = $calls::Volatile::$fresh();
+            let mut ones = 0;
+            match way {
+                Way::Run => {
+                    for steps in line.steps.chunks(MOST_STEPS) {
+                        let ran = $calls::run(&mut memory, fuses, half, steps, answers);
+                        (fuses, half) = (ran.fuses, ran.volatile);
+                        ones += u64::from(answers[ran.done - 1]);
+                    }
+                }
+                Way::Step => {
+                    for &step in &line.steps {
+                        let told = $calls::step(&mut memory, fuses, half, step);
+                        (fuses, half) = (told.fuses, told.volatile);
+                        ones += u64::from(told.answer.unwrap_or(9));
+                    }
+                }
+                Way::Thin => return $thin(line),
+            }
+            (memory, fuses, ones)
+        }
+    };
+}
+
+side!(card, zhavdurgon, fresh, card_thin);
+side!(model, model, default, model_thin);
+
+fn card_thin(line: &Line) -> Outcome {
     let mut memory = line.memory;
     let mut fuses = line.fuses;
     let mut half = zhavdurgon::Volatile::fresh();
     let mut ones = 0;
-    match way {
-        Way::Run => {
-            for steps in line.steps.chunks(MOST_STEPS) {
-                let ran = zhavdurgon::run(&mut memory, fuses, half, steps, answers);
-                (fuses, half) = (ran.fuses, ran.volatile);
-                ones += u64::from(answers[ran.done - 1]);
-            }
-        }
-        Way::Step => {
-            for &step in &line.steps {
-                let told = zhavdurgon::step(&mut memory, fuses, half, step);
-                (fuses, half) = (told.fuses, told.volatile);
-                ones += u64::from(told.answer.unwrap_or(9));
-            }
-        }
-        Way::Thin => {
-            for &step in &line.steps {
-                let told = zhavdurgon::step_at(&mut memory, fuses, &mut half, step);
-                fuses = told.fuses;
-                ones += u64::from(told.answer.unwrap_or(9));
-            }
-        }
+    for &step in &line.steps {
+        let told = zhavdurgon::step_at(&mut memory, fuses, &mut half, step);
+        fuses = told.fuses;
+        ones += u64::from(told.answer.unwrap_or(9));
     }
     (memory, fuses, ones)
 }
 
-/// The same by the model. Its thin call is the step of a card that stands.
-fn model(line: &Line, way: Way, answers: &mut [u8]) -> ([u8; 174], u8, u64) {
-    let mut memory = line.memory;
-    let mut fuses = line.fuses;
-    let mut half = Volatile::default();
+/// The model's thin call is the step of a card that stands.
+fn model_thin(line: &Line) -> Outcome {
+    let mut card = model::Card::new(line.memory, line.fuses);
     let mut ones = 0;
-    match way {
-        Way::Run => {
-            for steps in line.steps.chunks(MOST_STEPS) {
-                let ran = model::run(&mut memory, fuses, half, steps, answers);
-                (fuses, half) = (ran.fuses, ran.volatile);
-                ones += u64::from(answers[ran.done - 1]);
-            }
-        }
-        Way::Step => {
-            for &step in &line.steps {
-                let told = model::step(&mut memory, fuses, half, step);
-                (fuses, half) = (told.fuses, told.volatile);
-                ones += u64::from(told.answer.unwrap_or(9));
-            }
-        }
-        Way::Thin => {
-            let mut card = model::Card::new(memory, fuses);
-            for &step in &line.steps {
-                ones += u64::from(card.step(step).unwrap_or(9));
-            }
-            (memory, fuses) = (card.memory, card.fuses);
-        }
+    for &step in &line.steps {
+        ones += u64::from(card.step(step).unwrap_or(9));
     }
-    (memory, fuses, ones)
+    (card.memory, card.fuses, ones)
 }
 
-type Side = fn(&Line, Way, &mut [u8]) -> ([u8; 174], u8, u64);
+type Side = fn(&Line, Way, &mut [u8]) -> Outcome;
 
 const SIDES: [(&str, Side); 2] = [("card", card), ("model", model)];
 
