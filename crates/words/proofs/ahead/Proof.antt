@@ -1,22 +1,21 @@
-use Prim.Native.Nat.{_+_, _-_, _≤_}
-use mathlib.Core.Path.{_≡_}
+use Prim.Native.Nat.{_-_}
+use mathlib.Core.Path.{sym, _∙_}
 use native.Mathlib.Omega.{arith}
 use borrow.Author.Needs.{needs}
-use denote.Ref.{now}
-use lib.ListN.{length, drop}
+use lib.ListN.{length}
 use Rattle.words.specs.Scan.{aheadOf}
-use Rattle.words.proofs.Scans.{ahead-end, ahead-at}
+use Rattle.words.proofs.Scans.{Passed, none-passed, ahead-counts, at-end, at-stop, one-more}
 use Rattle.words.proofs.ahead.Statement.{statement}
 use Rattle.words.proofs.ahead.Tie as tie
 
 abbrev Inv-loop : tie.InvT-loop
-Inv-loop stop s i₀ i = (i + aheadOf stop (drop i s) ≡ aheadOf stop s) × (i ≤ length s)
+Inv-loop stop s i₀ i = Passed (aheadOf stop) s i
 
 abbrev μ-loop : tie.MeasureT-loop
 μ-loop stop s i₀ i = length s - i
 
 loop-holds : tie.Need-loop-holds Inv-loop μ-loop
-loop-holds c = omega arith
+loop-holds c = none-passed
 
 shared-slice-read-stops : tie.Need-shared-slice-read-stops Inv-loop μ-loop
 shared-slice-read-stops c = omega arith
@@ -26,9 +25,7 @@ stops-requires c κs = search needs
 
 returns : tie.Need-returns Inv-loop μ-loop
 returns c =
-    let a = c .before .before .before .before .before .before .args in
-    let i = c .before .before .before .before .loop .i in
-    omega (arith, rw (← c .before .stops .ensures, c .if1 .taken) at (ahead-at (now (a .s)) i (c .before .before .before .loop-test .taken) (a .stop)))
+    at-stop (ahead-counts _) (c .before .before .before .before .loop .inv) (c .before .before .before .loop-test .taken) (sym (c .before .stops .ensures) ∙ c .if1 .taken)
 
 add-i : tie.Need-add-i Inv-loop μ-loop
 add-i c = omega arith
@@ -38,14 +35,10 @@ loop-less c = omega arith
 
 loop-again : tie.Need-loop-again Inv-loop μ-loop
 loop-again c =
-    let a = c .before .before .before .before .before .before .args in
-    let i = c .before .before .before .before .loop .i in
-    omega (arith, rw (← c .before .stops .ensures, c .if1 .left) at (ahead-at (now (a .s)) i (c .before .before .before .loop-test .taken) (a .stop)))
+    one-more (ahead-counts _) (c .before .before .before .before .loop .inv) (c .before .before .before .loop-test .taken) (sym (c .before .stops .ensures) ∙ c .if1 .left)
 
 returns-2 : tie.Need-returns-2 Inv-loop μ-loop
-returns-2 c =
-    let a = c .before .before .before .args in
-    omega (arith, ahead-end (now (a .s)) (c .before .loop .i) (c .loop-test .left) (a .stop))
+returns-2 c = at-end (ahead-counts _) (c .before .loop .inv) (c .loop-test .left)
 
 pub ahead-spec : {M : Type 1} → statement M
 ahead-spec =

@@ -1,23 +1,21 @@
-use Prim.Native.Nat.{_+_, _-_, _≤_}
-use mathlib.Core.Path.{_≡_}
+use Prim.Native.Nat.{_-_}
 use native.Mathlib.Omega.{arith}
 use borrow.Author.Needs.{needs}
 use borrow.Author.Tests.{eq-eqb, ne-eqb}
-use denote.Ref.{now}
-use lib.ListN.{length, drop}
+use lib.ListN.{length}
 use Rattle.words.specs.Names.{indexOf}
-use Rattle.words.proofs.Scans.{index-end, index-at}
+use Rattle.words.proofs.Scans.{Passed, none-passed, index-counts, at-end, at-stop, one-more}
 use Rattle.words.proofs.find.Statement.{statement}
 use Rattle.words.proofs.find.Tie as tie
 
 abbrev Inv-loop : tie.InvT-loop
-Inv-loop x table i₀ i = (i + indexOf x (drop i table) ≡ indexOf x table) × (i ≤ length table)
+Inv-loop x table i₀ i = Passed (indexOf x) table i
 
 abbrev μ-loop : tie.MeasureT-loop
 μ-loop x table i₀ i = length table - i
 
 loop-holds : tie.Need-loop-holds Inv-loop μ-loop
-loop-holds c = omega arith
+loop-holds c = none-passed
 
 mul-if1 : tie.Need-mul-if1 Inv-loop μ-loop
 mul-if1 c = search needs
@@ -27,9 +25,7 @@ shared-slice-read-if1 c = omega arith
 
 returns : tie.Need-returns Inv-loop μ-loop
 returns c =
-    let a = c .before .before .before .before .args in
-    let i = c .before .before .before .loop .i in
-    omega (arith, rw (eq-eqb _ _ (c .if1 .taken)) at (index-at (now (a .table)) i (c .before .before .loop-test .taken) (a .x)))
+    at-stop (index-counts _) (c .before .before .before .loop .inv) (c .before .before .loop-test .taken) (eq-eqb _ _ (c .if1 .taken))
 
 add-i : tie.Need-add-i Inv-loop μ-loop
 add-i c = omega arith
@@ -39,14 +35,10 @@ loop-less c = omega arith
 
 loop-again : tie.Need-loop-again Inv-loop μ-loop
 loop-again c =
-    let a = c .before .before .before .before .args in
-    let i = c .before .before .before .loop .i in
-    omega (arith, rw (ne-eqb _ _ (c .if1 .left)) at (index-at (now (a .table)) i (c .before .before .loop-test .taken) (a .x)))
+    one-more (index-counts _) (c .before .before .before .loop .inv) (c .before .before .loop-test .taken) (ne-eqb _ _ (c .if1 .left))
 
 returns-2 : tie.Need-returns-2 Inv-loop μ-loop
-returns-2 c =
-    let a = c .before .before .args in
-    omega (arith, index-end (now (a .table)) (c .before .loop .i) (c .loop-test .left) (a .x))
+returns-2 c = at-end (index-counts _) (c .before .loop .inv) (c .loop-test .left)
 
 pub find-spec : {M : Type 1} → statement M
 find-spec =
