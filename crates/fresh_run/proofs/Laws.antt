@@ -3,12 +3,11 @@ use Prim.Native.Nat.{ℕ, _≤_, _<_, _^_}
 use native.Mathlib.Omega.{arith}
 use mathlib.Core.Path.{_≡_, refl, sym, ap, _∙_}
 use mathlib.Core.Bool.{Bool, true, false, cond}
-use mathlib.Core.List.{List, [], _++_}
-use borrow.Author.Tests.{le-ltb, ltb-false}
-use lib.Dec.{eqb, ltb}
-use lib.ListN.{length, take, drop}
+use mathlib.Core.List.{List}
+use lib.Dec.{eqb}
+use lib.ListN.{length, take}
 use lib.Seq.{take-at, take-length}
-use Rattle.memory.specs.Image.{bytes, digit}
+use Rattle.memory.specs.Image.{digit}
 use Rattle.rules.specs.Halves.{fresh, off}
 use Rattle.rules.specs.Lines.{place, high}
 use Rattle.rules.specs.Zones.{between}
@@ -16,19 +15,14 @@ use Rattle.rules.specs.Refusals.{longest, anySet, madeUp, stateRefusal, runRefu
 use Rattle.rules.specs.Card.{checkedRun, run, ended, answersIn, triesLeft}
 use Rattle.rules.specs.Card as Rules
 use Rattle.rules.specs.Demands.{freshCard}
-use Rattle.volatile.specs.declared.Volatile.{Volatile}
 use Rattle.volatile.specs.Packed.{packed, unpacked, word, cardOf, madeUpWord}
 use Rattle.card.specs.declared.Ran.{Ran}
 use Rattle.card.specs.Contracts.{stateNumber, runNumber, ranOn, runAnswer, runMemory, runAnswers, RunAnswered}
-use Rattle.report.specs.declared.Text.{Text}
-use Rattle.report.specs.declared.Text.the-variants.{TooSmall, Wrote}
-use Rattle.report.specs.Decimal.{decimal}
 use Rattle.report.specs.Lines.{fourLines}
 use Rattle.report.specs.Session.{reported}
-use Rattle.report.specs.Buffer.{told, Made}
 use Rattle.report.proofs.Digits.{at-most-twenty}
 use Rattle.report.proofs.Lengths.{length-lines}
-use Rattle.fresh_run.specs.FreshRun.{freshRun, runText, enough, Enough}
+use Rattle.fresh_run.specs.FreshRun.{freshRun, runText, enough}
 
 module _ (m : List ℕ) (fuses : ℕ) (steps answers : List ℕ) where
   abbrev number : ℕ
@@ -99,25 +93,3 @@ pub not-long :
     length pins ≡ longest → length (fourLines done given refusal pins left) ≤ enough
 not-long done given refusal pins left d g k l e =
     omega (arith, length-lines done given refusal pins left, at-most-twenty done d, at-most-twenty given g, at-most-twenty refusal k, at-most-twenty left l)
-
-pub never-small : {text before after : List ℕ} {r : Text} → length text ≤ enough → Made text before r after → Enough (length before) r
-unfolding told Enough
-never-small {text} {before} {after} {r} h m room small =
-    let e : r ≡ Wrote (length text) = rw (le-ltb (length before) (length text) (omega arith)) at (m .answered) in
-    let z : _≡_ {A = ℕ} 0 1 = cc in
-    omega arith
-
--- A text that was written lies within its buffer.
-pub written-fits : {text before after : List ℕ} {r : Text} (n : ℕ) → Made text before r after → r ≡ Wrote n → n ≤ length before
-unfolding told
-written-fits {text} {before} {after} {r} n m e = go (ltb (length before) (length text)) refl
-  where
-    go : (t : Bool) → ltb (length before) (length text) ≡ t → n ≤ length before
-    go true q =
-        let small : r ≡ TooSmall = rw q at (m .answered) in
-        let z : _≡_ {A = ℕ} 0 1 = cc in
-        omega arith
-    go false q =
-        let whole : r ≡ Wrote (length text) = rw q at (m .answered) in
-        let same : n ≡ length text = cc in
-        omega (arith, ltb-false (length before) (length text) q)

@@ -1,12 +1,9 @@
 -- 01, "Card file and session": a run on a fresh card, and the four lines that tell of it.
-use Prim.Native.Nat.{ℕ, _≤_}
-use mathlib.Core.Path.{_≡_}
+use Prim.Native.Nat.{ℕ}
 use mathlib.Core.List.{List}
 use Rattle.rules.specs.Refusals.{longest}
 use Rattle.rules.specs.Card.{Ran, checkedRun}
 use Rattle.rules.specs.Demands.{freshCard}
-use Rattle.report.specs.declared.Text.{Text}
-use Rattle.report.specs.declared.Text.the-variants.{TooSmall}
 use Rattle.report.specs.Session.{reported}
 
 -- "starts a fresh card": the run, with room for the answers of the longest.
@@ -21,6 +18,3 @@ runText m fuses steps given = reported given (freshRun m fuses steps)
 -- How much room is enough for any text: the words, four numbers of at most 20 digits, and the answers of the longest run.
 abbrev pub enough : ℕ
 enough = 4202
-
-unfoldable pub Enough : ℕ → Text → Type 0
-Enough room r = enough ≤ room → r ≡ TooSmall → ⊥

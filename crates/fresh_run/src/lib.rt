@@ -1,17 +1,16 @@
 // A run on a fresh card, told in the session program's four lines.
 use report::Text;
 use volatile::Volatile;
-ghost use Prim.Native.Nat.{_≤_};
 ghost use mathlib.Core.Path.{_≡_};
 ghost use lib.ListN.{length};
-ghost use Rattle.report.specs.Buffer.{Made};
-ghost use Rattle.fresh_run.specs.FreshRun.{freshRun, runText, Enough};
+ghost use Rattle.report.specs.Buffer.{Made, Enough};
+ghost use Rattle.fresh_run.specs.FreshRun.{freshRun, runText, enough};
 
 // The memory is left as the run leaves it. Of the steps `given` were announced; 4,202 bytes hold every such text.
 pub fn report(memory: &mut [u8], fuses: u8, steps: &[u8], given: usize, out: &mut [u8]) -> Text
     ensures text { λ r. ⌜ Made (runText (now (memory .entry)) fuses (now (steps .entry)) given) (now (out .entry)) r (now (out .exit)) ⌝ }
     ensures memory { λ r. ⌜ now (memory .exit) ≡ freshRun (now (memory .entry)) fuses (now (steps .entry)) .card .memory ⌝ }
-    ensures enough { λ r. ⌜ Enough (length (now (out .entry))) r ⌝ }
+    ensures enough { λ r. ⌜ Enough enough (length (now (out .entry))) r ⌝ }
 {
     let mut answers = [0u8; 4096];
     let ran = card::run(memory, fuses, Volatile::fresh(), steps, &mut answers);

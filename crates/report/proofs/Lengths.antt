@@ -7,7 +7,7 @@ use lib.ListN.{length, length-append, length-map, length-take}
 use Rattle.report.specs.Decimal.{digit, decimal}
 use Rattle.report.specs.Lines.{newline, badWord, numbered, line, answersLine, badText, fourLines}
 
-length-numbered : (word : List ℕ) (x : ℕ) → length (numbered word x) ≡ length word + length (decimal x)
+pub length-numbered : (word : List ℕ) (x : ℕ) → length (numbered word x) ≡ length word + length (decimal x)
 unfolding numbered
 length-numbered word x = length-append word (decimal x)
 

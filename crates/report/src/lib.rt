@@ -1,7 +1,7 @@
-// The session program's text, made in a lent buffer.
+// Texts made in a lent buffer: the writers of their parts, and the session program's.
 ghost use mathlib.Core.Path.{_≡_};
 ghost use mathlib.Core.List.{_∷_, []};
-ghost use Prim.Native.Nat.{_+_, _≤_, _<_, min};
+ghost use Prim.Native.Nat.{_≤_, min};
 ghost use lib.ListN.{length, take};
 ghost use Rattle.report.specs.Decimal.{digit, decimal};
 ghost use Rattle.report.specs.Lines.{numbered, line, answersLine, badText, fourLines};
@@ -33,17 +33,19 @@ fn places(x: usize) -> usize
     n
 }
 
-// The writer of all parts: one byte, and the place behind it.
+// The writer of all parts: one byte, if there is room, and the place behind it.
 fn put_byte(out: &mut [u8], at: usize, byte: u8) -> usize
-    requires { ⌜ at < length (now out) ⌝ }
     ensures { λ r. ⌜ Put (now (out .entry)) at (byte ∷ []) r (now (out .exit)) ⌝ }
 {
+    if out.len() <= at {
+        return at;
+    }
     out[at] = byte;
     at + 1
 }
 
-fn put(out: &mut [u8], at: usize, bytes: &[u8]) -> usize
-    requires { ⌜ at + length (now bytes) ≤ length (now out) ⌝ }
+// These bytes, as far as there is room.
+pub fn put(out: &mut [u8], at: usize, bytes: &[u8]) -> usize
     ensures { λ r. ⌜ Put (now (out .entry)) at (now (bytes .entry)) r (now (out .exit)) ⌝ }
 {
     let mut next = at;
@@ -56,7 +58,6 @@ fn put(out: &mut [u8], at: usize, bytes: &[u8]) -> usize
 }
 
 fn put_decimal(out: &mut [u8], at: usize, x: usize) -> usize
-    requires { ⌜ at + length (decimal x) ≤ length (now out) ⌝ }
     ensures { λ r. ⌜ Put (now (out .entry)) at (decimal x) r (now (out .exit)) ⌝ }
 {
     if x < 10 {
@@ -68,8 +69,8 @@ fn put_decimal(out: &mut [u8], at: usize, x: usize) -> usize
     put_byte(out, next, digit_of(last))
 }
 
-fn put_number(out: &mut [u8], at: usize, word: &[u8], x: usize) -> usize
-    requires { ⌜ at + length (numbered (now word) x) ≤ length (now out) ⌝ }
+// A word and a number behind it.
+pub fn put_number(out: &mut [u8], at: usize, word: &[u8], x: usize) -> usize
     ensures { λ r. ⌜ Put (now (out .entry)) at (numbered (now (word .entry)) x) r (now (out .exit)) ⌝ }
 {
     let next = put(out, at, word);
@@ -77,7 +78,6 @@ fn put_number(out: &mut [u8], at: usize, word: &[u8], x: usize) -> usize
 }
 
 fn put_line(out: &mut [u8], at: usize, word: &[u8], x: usize) -> usize
-    requires { ⌜ at + length (line (now word) x) ≤ length (now out) ⌝ }
     ensures { λ r. ⌜ Put (now (out .entry)) at (line (now (word .entry)) x) r (now (out .exit)) ⌝ }
 {
     let end = put_number(out, at, word, x);
@@ -92,7 +92,6 @@ fn lesser(a: usize, b: usize) -> usize
 
 // The first `done` of the answers, all of them if there are fewer.
 fn put_answers(out: &mut [u8], at: usize, answers: &[u8], done: usize) -> usize
-    requires { ⌜ at + length (answersLine (take done (now answers))) ≤ length (now out) ⌝ }
     ensures { λ r. ⌜ Put (now (out .entry)) at (answersLine (take done (now (answers .entry)))) r (now (out .exit)) ⌝ }
 {
     let count = lesser(done, answers.len());
@@ -135,7 +134,6 @@ fn put_lines(
     answers: &[u8],
     left: u32,
 ) -> usize
-    requires { ⌜ length (fourLines done given refusal (now answers) left) ≤ length (now out) ⌝ }
     ensures { λ r. ⌜ Put (now (out .entry)) 0 (fourLines done given refusal (now (answers .entry)) left) r (now (out .exit)) ⌝ }
 {
     let after_done = put_number(out, 0, b"done ", done);

@@ -6,15 +6,10 @@ use lib.ListN.{replicate}
 use borrow.Author.Needs.{needs}
 use Rattle.report.specs.Lines.{fourLines}
 use Rattle.report.specs.Buffer.{Made}
-use Rattle.fresh_run.proofs.Laws.{from-fresh, text-of, not-long, never-small}
+use Rattle.report.proofs.Laws.{never-small}
+use Rattle.fresh_run.proofs.Laws.{from-fresh, text-of, not-long}
 use Rattle.fresh_run.proofs.report.Statement.{statement}
 use Rattle.fresh_run.proofs.report.Tie as tie
-use Rattle.fresh_run.proofs.report.Reads as reads
-use Rattle.fresh_run.proofs.report.Lts as lts
-use Rattle.card.proofs.run.Reads as run-reads
-use Rattle.card.proofs.tries_left.Reads as tries-left-reads
-use Rattle.report.proofs.four_lines.Reads as four-lines-reads
-use Rattle.volatile.proofs.Volatile.fresh.Reads as fresh-reads
 
 fresh-requires : tie.Need-fresh-requires
 fresh-requires c κs = search needs

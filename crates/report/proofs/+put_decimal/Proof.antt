@@ -1,12 +1,10 @@
 use Prim.Native.Nat.{ℕ, _/_, _%_, _<_}
-use mathlib.Core.Path.{ap}
 use mathlib.Core.List.{[], _∷_, _++_}
 use native.Mathlib.Omega.{arith}
-use lib.ListN.{length, length-append}
 use Rattle.report.specs.Decimal.{digit, decimal}
 use Rattle.report.specs.Buffer.{Put}
 use Rattle.report.proofs.Digits.{one-digit, more-digits}
-use Rattle.report.proofs.Laws.{then, room-behind, same-room}
+use Rattle.report.proofs.Laws.{then, same-room}
 use borrow.Fn.Kinds.{In}
 use borrow.Fn.PlainCycle.{Measures, is, falls, and}
 use Rattle.report.proofs.put_decimal.Reads as put-decimal
@@ -46,9 +44,7 @@ put-decimal-digit-of-requires : (t : ℕ) → put-decimal-lts.Need-digit-of-requ
 put-decimal-digit-of-requires t c κs = tt
 
 put-decimal-put-byte-requires : (t : ℕ) → put-decimal-lts.Need-put-byte-requires (called t) (put-decimal-at t) put-decimal.Post
-put-decimal-put-byte-requires t c κs =
-    let args = c .before .before .before .before .args in
-    omega (arith, ap length (one-digit (args .x) (c .before .before .if1 .taken)))
+put-decimal-put-byte-requires t c κs = tt
 
 put-decimal-same-length : (t : ℕ) → put-decimal-lts.Need-same-length (called t) (put-decimal-at t) put-decimal.Post
 put-decimal-same-length t c = same-room (c .before .before .put-byte .ensures)
@@ -60,22 +56,13 @@ put-decimal-returns t c =
     (c .before .before .put-byte .ensures)
 
 put-decimal-put-decimal-requires : (t : ℕ) → put-decimal-lts.Need-put-decimal-requires (called t) (put-decimal-at t) put-decimal.Post
-put-decimal-put-decimal-requires t c κs =
-    let start = c .before .before .before in
-    let x = start .args .x in
-    let room = rw (more-digits x (c .before .if1 .left)) at (start .pre .1) in
-    (omega arith, omega (arith, length-append (decimal (x / 10)) (digit (x % 10) ∷ [])))
+put-decimal-put-decimal-requires t c κs = (omega arith, tt)
 
 put-decimal-digit-of-requires-2 : (t : ℕ) → put-decimal-lts.Need-digit-of-requires-2 (called t) (put-decimal-at t) put-decimal.Post
 put-decimal-digit-of-requires-2 t c κs = tt
 
 put-decimal-put-byte-requires-2 : (t : ℕ) → put-decimal-lts.Need-put-byte-requires-2 (called t) (put-decimal-at t) put-decimal.Post
-put-decimal-put-byte-requires-2 t c κs =
-    let call = c .before .before .before .before in
-    let start = call .before .before .before .before in
-    let x = start .args .x in
-    let room = rw (more-digits x (call .before .before .if1 .left)) at (start .pre .1) in
-    omega (arith, room-behind (digit (x % 10) ∷ []) (call .put-decimal .ensures) room)
+put-decimal-put-byte-requires-2 t c κs = tt
 
 put-decimal-same-length-2 : (t : ℕ) → put-decimal-lts.Need-same-length-2 (called t) (put-decimal-at t) put-decimal.Post
 put-decimal-same-length-2 t c = same-room (front-and-last t c)

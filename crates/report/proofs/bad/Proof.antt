@@ -19,8 +19,7 @@ slice-aggregate-put-line : tie.Need-slice-aggregate-put-line
 slice-aggregate-put-line c = search needs
 
 put-line-requires : tie.Need-put-line-requires
-unfolding badText
-put-line-requires c κs = omega (arith, length-bad (c .before .before .before .before .before .args .number))
+put-line-requires c κs = search needs
 
 same-length : tie.Need-same-length
 same-length c = search needs

@@ -1,8 +1,9 @@
 use Prim.Native.Nat.{_-_, _≤_}
 use native.Mathlib.Omega.{arith}
 use lib.ListN.{length, take}
+use borrow.Author.Needs.{needs}
 use Rattle.report.specs.Buffer.{Put}
-use Rattle.report.proofs.Laws.{nothing-put, room-for-one, one-more, all-put, same-room}
+use Rattle.report.proofs.Laws.{nothing-put, one-more, all-put, same-room}
 use Rattle.report.proofs.put.Statement.{statement}
 use Rattle.report.proofs.put.Tie as tie
 
@@ -19,10 +20,7 @@ shared-slice-read-put-byte : tie.Need-shared-slice-read-put-byte Inv-loop μ-loo
 shared-slice-read-put-byte c = omega arith
 
 put-byte-requires : tie.Need-put-byte-requires Inv-loop μ-loop
-put-byte-requires c κs =
-    let inner = c .before .before in
-    let start = inner .before .before .before .before in
-    room-for-one _ (start .args .bytes .now) (inner .before .loop .inv .1) (inner .loop-test .taken) (start .pre)
+put-byte-requires c κs = search needs
 
 add-i : tie.Need-add-i Inv-loop μ-loop
 add-i c = omega arith
@@ -34,7 +32,7 @@ loop-again : tie.Need-loop-again Inv-loop μ-loop
 loop-again c =
     let inner = c .before .before .before .before .before in
     let bytes = inner .before .before .before .before .args .bytes .now in
-    (omega arith, one-more _ bytes (inner .before .loop .inv .1) (inner .loop-test .taken) 0 (c .before .before .put-byte .ensures))
+    (omega arith, one-more _ bytes 0 (inner .before .loop .inv .1) (inner .loop-test .taken) (c .before .before .put-byte .ensures))
 
 same-length : tie.Need-same-length Inv-loop μ-loop
 same-length c = same-room (c .before .loop .inv .1)

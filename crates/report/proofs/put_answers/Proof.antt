@@ -6,9 +6,9 @@ use lib.ListN.{length, getD, take, length-take, length-map, List·getD-map}
 use lib.Seq.{getD-take}
 use borrow.Author.Needs.{needs}
 use Rattle.report.specs.Decimal.{digit}
-use Rattle.report.specs.Lines.{newline, answersLine}
+use Rattle.report.specs.Lines.{answersLine}
 use Rattle.report.specs.Buffer.{Put}
-use Rattle.report.proofs.Laws.{nothing-put, room-for-one, one-more, all-put, then, room-in-front, room-behind, same-room}
+use Rattle.report.proofs.Laws.{nothing-put, one-more, all-put, then, same-room}
 use Rattle.report.proofs.put_answers.Statement.{statement}
 use Rattle.report.proofs.put_answers.Tie as tie
 
@@ -52,12 +52,7 @@ another c =
     omega (arith, length-digits (args .answers .now) (args .done))
 
 put-byte-requires : tie.Need-put-byte-requires Inv-loop μ-loop
-unfolding answersLine
-put-byte-requires c κs =
-    let inner = c .before .before .before in
-    let start = inner .before .before .before .before .before in
-    let all = digits (start .args .answers .now) (start .args .done) in
-    room-for-one (inner .before .loop .i) all (inner .before .loop .inv .1) (another inner) (room-in-front all newline _ _ (start .pre))
+put-byte-requires c κs = search needs
 
 add-i : tie.Need-add-i Inv-loop μ-loop
 add-i c = omega arith
@@ -72,7 +67,7 @@ loop-again c =
     let i = inner .before .loop .i in
     let answers = args .answers .now in
     let e = c .before .before .before .digit-of .ensures ∙ sym (digit-at answers (args .done) i (omega arith)) in
-    (omega arith, one-more i (digits answers (args .done)) (inner .before .loop .inv .1) (another inner) (digit 0) (rw e at (c .before .before .put-byte .ensures)))
+    (omega arith, one-more i (digits answers (args .done)) (digit 0) (inner .before .loop .inv .1) (another inner) (rw e at (c .before .before .put-byte .ensures)))
 
 all-digits :
     (c : tie.After-loop Inv-loop μ-loop) →
@@ -87,10 +82,7 @@ slice-aggregate-put : tie.Need-slice-aggregate-put Inv-loop μ-loop
 slice-aggregate-put c = refl
 
 put-requires : tie.Need-put-requires Inv-loop μ-loop
-unfolding answersLine
-put-requires c κs =
-    let left = c .before .before in
-    room-behind newline (all-digits left) (left .before .before .before .before .before .pre)
+put-requires c κs = search needs
 
 same-length : tie.Need-same-length Inv-loop μ-loop
 same-length c = same-room (then (all-digits (c .before .before .before .before .before)) (c .before .before .put .ensures))

@@ -1,24 +1,17 @@
-use native.Mathlib.Omega.{arith}
 use borrow.Author.Needs.{needs}
-use Rattle.report.specs.Lines.{numbered, line, newline}
-use Rattle.report.proofs.Laws.{then, room-in-front, room-behind}
+use Rattle.report.specs.Lines.{line}
+use Rattle.report.proofs.Laws.{then}
 use Rattle.report.proofs.put_line.Statement.{statement}
 use Rattle.report.proofs.put_line.Tie as tie
 
 put-number-requires : tie.Need-put-number-requires
-unfolding line
-put-number-requires c κs =
-    let start = c .before .before .before in
-    room-in-front (numbered (start .args .word .now) (start .args .x)) newline _ _ (start .pre)
+put-number-requires c κs = search needs
 
 slice-aggregate-put : tie.Need-slice-aggregate-put
 slice-aggregate-put c = search needs
 
 put-requires : tie.Need-put-requires
-unfolding line
-put-requires c κs =
-    let call = c .before .before .before .before in
-    omega (arith, room-behind newline (call .put-number .ensures) (call .before .before .before .before .pre))
+put-requires c κs = search needs
 
 same-length : tie.Need-same-length
 same-length c = search needs
