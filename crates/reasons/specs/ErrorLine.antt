@@ -1,0 +1,42 @@
+-- docs/TEXT.md, "Errors": the line that says what is wrong with a text.
+use Prim.Native.Nat.{ℕ}
+use Prim.Native.String.{String}
+use mathlib.Core.Bool.{cond}
+use mathlib.Core.List.{List, [], _∷_, _++_}
+use lib.Dec.{eqb}
+use Rattle.words.specs.Names.{bytesOf}
+use Rattle.report.specs.Lines.{newline, numbered}
+
+-- Each reason's number and words.
+unfoldable pub table : List (ℕ × String)
+table =
+    (77, "the text is longer than 65,536 bytes") ∷
+    (71, "no line starts with this word") ∷
+    (72, "other words than this line takes") ∷
+    (73, "a number is too large for its place") ∷
+    (74, "the image and the fuses come before the first step") ∷
+    (75, "the lines are not where this act starts") ∷
+    (21, "a walk over 1519") ∷
+    (23, "no one in bits 96 to 103") ∷
+    (22, "more than 4,096 steps") ∷
+    (76, "no room") ∷
+    []
+
+-- The words in a reason's row, and some for a number that has none.
+unfoldable pub wordsIn : List (ℕ × String) → ℕ → String
+wordsIn [] reason = "another reason"
+wordsIn ((number, said) ∷ rows) reason = cond (eqb reason number) said (wordsIn rows reason)
+
+-- The words of a reason, as bytes.
+unfoldable pub words : ℕ → List ℕ
+words reason = bytesOf (wordsIn table reason)
+
+-- "`line N: words (number)`"
+unfoldable pub errorLine : ℕ → ℕ → List ℕ
+errorLine line reason =
+    numbered (bytesOf "line ") line ++
+    (bytesOf ": " ++ (words reason ++ (numbered (bytesOf " (") reason ++ (bytesOf ")" ++ newline))))
+
+-- How much room is enough for any line: the longest words, a number of at most 20 digits, one of at most 3, and what stands around them.
+abbrev pub enough : ℕ
+enough = 84
