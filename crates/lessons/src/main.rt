@@ -30,11 +30,9 @@ fn tell(source: &[u8], recorded: &[u8]) {
             }
         }
         Assembled::Wrong { line, reason } => {
-            say(b"line ");
-            io::print_decimal(STDOUT_FILENO, line as u64);
-            say(b": ");
-            io::print_decimal(STDOUT_FILENO, reason as u64);
-            say(b"\n");
+            let mut said = [0u8; 84];
+            let made = reasons::error_line(line, reason, &mut said);
+            show(made, &said);
         }
     }
 }
@@ -140,6 +138,7 @@ fn wrong_texts() {
     tell(b"power on\nwalk 1520\n", b"");
     tell(b"power on\r\nwalk 1519\r\nwalk 528\r\nreset\r\n", b"");
     tell(b"zone SCAC 00FF\npower on\nopen A5C3\n", b"");
+    tell(&[10u8; 65537], b"");
 }
 
 fn main() {

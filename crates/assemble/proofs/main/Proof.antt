@@ -1,7 +1,9 @@
 use Prim.Native.Nat.{_≤_}
+use native.Mathlib.Omega.{arith}
 use mathlib.Core.Path.{sym, _∙_}
 use lib.ListN.{length}
 use lib.Seq.{length-take-le}
+use Rattle.report.proofs.Laws.{written-fits}
 use Rattle.text.proofs.Fitting.{session-fits}
 use borrow.Author.Needs.{needs}
 use Rattle.assemble.proofs.main.Statement.{statement}
@@ -25,11 +27,11 @@ slice-aggregate-assemble-2 c = search needs
 assemble-requires : tie.Need-assemble-requires
 assemble-requires c κs = search needs
 
-enum-known-done : tie.Need-enum-known-done
-enum-known-done c = search needs
+enum-known-count : tie.Need-enum-known-count
+enum-known-count c = search needs
 
-fits : (c : tie.After-known-told) → c .before .done .given .0 .0 ≤ length (c .before .before .before .before .assemble .last .1 .0)
-fits c = rw (c .before .before .before .before .assemble .kept .1 .0) (session-fits _ _ _ (sym (c .before .before .before .before .assemble .ensures .answer) ∙ c .before .done .given .1))
+fits : (c : tie.After-known-told) → c .before .count .given .0 .0 ≤ length (c .before .before .before .before .assemble .last .1 .0)
+fits c = rw (c .before .before .before .before .assemble .kept .1 .0) (session-fits _ _ _ (sym (c .before .before .before .before .assemble .ensures .answer) ∙ c .before .count .given .1))
 
 array-share-prefix-session : tie.Need-array-share-prefix-session
 array-share-prefix-session c = fits c
@@ -40,32 +42,43 @@ slice-aggregate-write-all c = sym (length-take-le _ _ (fits (c .before)))
 write-all-requires : tie.Need-write-all-requires
 write-all-requires c κs = search needs
 
-enum-known-done-2 : tie.Need-enum-known-done-2
-enum-known-done-2 c = search needs
+enum-known-line : tie.Need-enum-known-line
+enum-known-line c = search needs
 
-slice-aggregate-write-all-2 : tie.Need-slice-aggregate-write-all-2
-slice-aggregate-write-all-2 c = search needs
+slice-aggregate-error-line : tie.Need-slice-aggregate-error-line
+slice-aggregate-error-line c = search needs
 
-write-all-requires-2 : tie.Need-write-all-requires-2
-write-all-requires-2 c κs = search needs
+error-line-requires : tie.Need-error-line-requires
+error-line-requires c κs = search needs
 
-print-decimal-requires : tie.Need-print-decimal-requires
-print-decimal-requires c κs = search needs
+enum-known-length : tie.Need-enum-known-length
+enum-known-length c = search needs
 
-slice-aggregate-write-all-3 : tie.Need-slice-aggregate-write-all-3
-slice-aggregate-write-all-3 c = search needs
-
-write-all-requires-3 : tie.Need-write-all-requires-3
-write-all-requires-3 c κs = search needs
-
-say-why-requires : tie.Need-say-why-requires
-say-why-requires c κs = search needs
+enum-told : tie.Need-enum-told
+enum-told c = search needs
 
 returns : tie.Need-returns
 returns c = search needs
 
+within : (c : tie.After-known-told3) → c .before .length .given .0 .0 ≤ length (c .before .before .before .before .error-line .last .1 .1 .0)
+within c =
+    let said = c .before .before .before .before .error-line in
+    omega (arith, written-fits _ (said .ensures .0) (c .before .length .given .1), said .kept .1 .1 .0)
+
+array-share-prefix-said : tie.Need-array-share-prefix-said
+array-share-prefix-said c = within c
+
+slice-aggregate-write-all-2 : tie.Need-slice-aggregate-write-all-2
+slice-aggregate-write-all-2 c = sym (length-take-le _ _ (within (c .before)))
+
+write-all-requires-2 : tie.Need-write-all-requires-2
+write-all-requires-2 c κs = search needs
+
 returns-2 : tie.Need-returns-2
 returns-2 c = search needs
+
+returns-3 : tie.Need-returns-3
+returns-3 c = search needs
 
 pub main-spec : {M : Type 1} → statement M
 main-spec =
@@ -77,16 +90,18 @@ main-spec =
     slice-aggregate-assemble
     slice-aggregate-assemble-2
     assemble-requires
-    enum-known-done
+    enum-known-count
     array-share-prefix-session
     slice-aggregate-write-all
     write-all-requires
-    enum-known-done-2
+    enum-known-line
+    slice-aggregate-error-line
+    error-line-requires
+    enum-known-length
+    enum-told
+    returns
+    array-share-prefix-said
     slice-aggregate-write-all-2
     write-all-requires-2
-    print-decimal-requires
-    slice-aggregate-write-all-3
-    write-all-requires-3
-    say-why-requires
-    returns
-    returns-2)
+    returns-2
+    returns-3)

@@ -46,32 +46,17 @@ say-requires-2 c κs = search needs
 enum-known-line : tie.Need-enum-known-line
 enum-known-line c = search needs
 
-slice-aggregate-say-3 : tie.Need-slice-aggregate-say-3
-slice-aggregate-say-3 c = search needs
+slice-aggregate-error-line : tie.Need-slice-aggregate-error-line
+slice-aggregate-error-line c = search needs
 
-say-requires-3 : tie.Need-say-requires-3
-say-requires-3 c κs = search needs
+error-line-requires : tie.Need-error-line-requires
+error-line-requires c κs = search needs
 
-print-decimal-requires-2 : tie.Need-print-decimal-requires-2
-print-decimal-requires-2 c κs = search needs
+slice-aggregate-show : tie.Need-slice-aggregate-show
+slice-aggregate-show c = search needs
 
-slice-aggregate-say-4 : tie.Need-slice-aggregate-say-4
-slice-aggregate-say-4 c = search needs
-
-say-requires-4 : tie.Need-say-requires-4
-say-requires-4 c κs = search needs
-
-cast-print-decimal : tie.Need-cast-print-decimal
-cast-print-decimal c = search needs
-
-print-decimal-requires-3 : tie.Need-print-decimal-requires-3
-print-decimal-requires-3 c κs = search needs
-
-slice-aggregate-say-5 : tie.Need-slice-aggregate-say-5
-slice-aggregate-say-5 c = search needs
-
-say-requires-5 : tie.Need-say-requires-5
-say-requires-5 c κs = search needs
+show-requires : tie.Need-show-requires
+show-requires c κs = search needs
 
 returns : tie.Need-returns
 returns c = search needs
@@ -98,15 +83,10 @@ tell-spec =
     slice-aggregate-say-2
     say-requires-2
     enum-known-line
-    slice-aggregate-say-3
-    say-requires-3
-    print-decimal-requires-2
-    slice-aggregate-say-4
-    say-requires-4
-    cast-print-decimal
-    print-decimal-requires-3
-    slice-aggregate-say-5
-    say-requires-5
+    slice-aggregate-error-line
+    error-line-requires
+    slice-aggregate-show
+    show-requires
     returns
     returns-2
     returns-3)
