@@ -10,9 +10,9 @@ use Rattle.rules.specs.Rights.{held, level1, mayRead}
 use Rattle.rules.specs.Programming.{operation, memoryAfter, fusesAfter, opens, keyOpens}
 use Rattle.rules.specs.Match.{compared, following, arrived}
 
--- "the lines only follow"
-unfoldable pub follows : ℕ → Volatile → Volatile
-follows n v =
+-- New levels, with the match, the latched data and the programming that they leave; all else stays.
+abbrev pub leaving : ℕ → Bool → Bool → Bool → Volatile → Volatile
+leaving n matched latch programming v =
     record {
       lines = n;
       address = v .address;
@@ -20,10 +20,14 @@ follows n v =
       p1 = v .p1;
       r1 = v .r1;
       e1 = v .e1;
-      matched = v .matched;
-      latch = v .latch;
-      programming = v .programming;
+      matched = matched;
+      latch = latch;
+      programming = programming;
     }
+
+-- "the lines only follow"
+unfoldable pub follows : ℕ → Volatile → Volatile
+follows n v = leaving n (v .matched) (v .latch) (v .programming) v
 
 -- A card with another volatile half.
 abbrev pub withVolatile : Card → Volatile → Card
@@ -36,18 +40,7 @@ vccFalls n c = withVolatile c (off n)
 
 -- "CLK rises: I/O is latched. With PGM high, programming starts (latched 1 erases, 0 writes)."
 unfoldable pub clkRises : ℕ → Volatile → Volatile
-clkRises n v =
-    record {
-      lines = n;
-      address = v .address;
-      sv = v .sv;
-      p1 = v .p1;
-      r1 = v .r1;
-      e1 = v .e1;
-      matched = v .matched;
-      latch = high IO n;
-      programming = high PGM n;
-    }
+clkRises n v = leaving n (v .matched) (high IO n) (high PGM n) v
 
 -- "RST falls: address 0."
 unfoldable pub rstFalls : ℕ → Card → Card
@@ -80,18 +73,7 @@ programmed op n c =
 
 -- "The latch is cleared when CLK falls": with the match that the compare gives.
 unfoldable pub unlatched : ℕ → Bool → Volatile → Volatile
-unlatched n matched v =
-    record {
-      lines = n;
-      address = v .address;
-      sv = v .sv;
-      p1 = v .p1;
-      r1 = v .r1;
-      e1 = v .e1;
-      matched = matched;
-      latch = false;
-      programming = false;
-    }
+unlatched n matched v = leaving n matched false false v
 
 -- "CLK falls otherwise, RST low: compare at the old address, then the address goes up by one".
 unfoldable pub clocked : ℕ → Card → Card
