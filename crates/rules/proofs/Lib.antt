@@ -17,5 +17,4 @@ pub mod Hidden
 pub mod Examples
 pub mod StepExamples
 pub mod Demands
-pub mod Cases
-pub mod DataSheet
+pub mod AgainstTable

@@ -1,5 +1,5 @@
 -- 01's own cases as one table: case S, "Both sides of each edge", and for each rule that is easily got wrong the cases that tell its
--- readings apart. `proofs.Cases` computes them from the definitions.
+-- readings apart. `proofs.AgainstTable` computes them from the definitions.
 --
 -- Levels are sums as in 01: VCC 1, RST 2, CLK 4, PGM 8, I/O 16, FUS 32. So 17 is idle with FUS low and 49 with FUS high, 19 and 51 the
 -- same with RST high, 21 idle with CLK high, 25 with PGM high, 29 with both.

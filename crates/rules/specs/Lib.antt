@@ -13,4 +13,3 @@ pub mod Computing
 pub mod Demands
 pub mod CaseForms
 pub mod Cases
-pub mod DataSheet

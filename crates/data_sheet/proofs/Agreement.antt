@@ -1,6 +1,6 @@
 -- 004's memory diagram and tables, computed against the definitions. Assumes nothing.
 use mathlib.Core.Path.{refl}
-use Rattle.rules.specs.DataSheet.{inPlace, diagram, Diagram-agrees, agrees, covers, table1, table2, Tables-agree}
+use Rattle.data_sheet.specs.Tables.{inPlace, diagram, Diagram-agrees, agrees, covers, table1, table2, Tables-agree}
 
 pub diagram-agrees : Diagram-agrees
 unfolding inPlace diagram

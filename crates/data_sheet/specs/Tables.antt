@@ -1,19 +1,19 @@
 -- Tables 1 and 2 and the memory diagram of source document 004, as it prints them, held against the definitions that state 01.
--- `proofs.DataSheet` computes the two claims.
+-- `proofs.Agreement` computes the two claims.
 use Prim.Native.Nat.{ℕ, zero, suc, _+_, _-_}
 use mathlib.Core.Path.{_≡_}
 use mathlib.Core.Bool.{Bool, true, false, cond, not, _&&_, _||_, Bool·beq}
 use mathlib.Core.List.{List, [], _∷_}
 use lib.Dec.{eqb}
 use lib.ListN.{take}
 use Rattle.rules.specs.declared.Zone.{Zone}
 use Rattle.rules.specs.declared.Zone.the-variants.{FZ, IZ, SC, SCAC, CPZ, AZ, EZ, EC, MTZ, MFZ}
 use Rattle.rules.specs.declared.Zone.the-variants.{Block, FuseMF, FuseECEN, FuseISS, Gap}
 use Rattle.rules.specs.Rights.{Held, level1, mayRead}
 use Rattle.rules.specs.Programming.{mayProgram}
 use Rattle.rules.specs.Match.{compared}
 use Rattle.rules.specs.Zones.{zone, row}
 use Rattle.rules.specs.Computing.{the-card}
 
 -- "AT88SC101 Memory Diagram": first and last bit address of each part. What lies between them is a gap.
 pub record Part : Type 0 where
