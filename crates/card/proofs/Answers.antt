@@ -16,7 +16,8 @@ use Rattle.volatile.specs.declared.Volatile.{Volatile}
 use Rattle.volatile.specs.Packed.{packed, unpacked, cardOf}
 use Rattle.card.specs.declared.Ran.{Ran}
 use Rattle.card.specs.Moves.{ranTo, Runs}
-use Rattle.card.specs.Contracts.{stateNumber, runNumber, ranOn, runAnswer, runMemory, runAnswers, stepAnswer, stepMemory}
+use Rattle.checks.specs.Numbers.{stateNumber, runNumber}
+use Rattle.card.specs.Contracts.{ranOn, runAnswer, runMemory, runAnswers, stepAnswer, stepMemory}
 use Rattle.card.specs.Contracts.{StepAnswered, RunAnswered}
 
 -- A chain of numbers that comes to 0 has none.

@@ -6,7 +6,7 @@ pub mod ByLine
 pub mod PlainMoves
 pub mod Loop
 pub mod WithoutLoop
-pub mod NumberLaws
+pub mod Ones
 pub mod Answers
 pub mod AsDefined
 pub mod Determined

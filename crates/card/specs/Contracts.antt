@@ -9,7 +9,6 @@ use Rattle.memory.specs.Image.{bytes}
 use Rattle.rules.specs.declared.Answer.{Answer}
 use Rattle.rules.specs.declared.Answer.the-variants.{Refused}
 use Rattle.rules.specs.Halves.{Card}
-use Rattle.rules.specs.Refusals.{before-a-step, before-a-run}
 use Rattle.rules.specs.Card as Rules
 use Rattle.volatile.specs.declared.Volatile.{Volatile}
 use Rattle.card.specs.declared.Stepped.{Stepped}
@@ -17,12 +16,8 @@ use Rattle.card.specs.declared.Ran.{Ran}
 use Rattle.card.specs.declared.FlagsAnswer.{FlagsAnswer}
 use Rattle.card.specs.declared.FlagsAnswer.the-variants.{Held, Refused as Barred}
 use Rattle.volatile.specs.Packed.{packed, unpacked, cardOf, madeUpWord}
+use Rattle.checks.specs.Numbers.{stateNumber, runNumber}
 use Rattle.card.specs.Moves.{ranTo}
-
--- 10, 14, 9.
-unfoldable pub stateNumber : List ℕ → ℕ → Volatile → ℕ
-unfolding madeUpWord before-a-step
-stateNumber m fuses v = before-a-step m fuses (madeUpWord v)
 
 -- A step's answer, with the halves that are handed back.
 unfoldable pub stepAnswer : List ℕ → ℕ → Volatile → ℕ → Stepped
@@ -42,11 +37,6 @@ stepAnswer m fuses v n =
 unfoldable pub stepMemory : List ℕ → ℕ → Volatile → ℕ → List ℕ
 unfolding stateNumber
 stepMemory m fuses v n = cond (eqb (stateNumber m fuses v) 0) (Rules.stepped (cardOf m fuses v) n .memory) m
-
--- 10, 14, 9, 18, 19.
-unfoldable pub runNumber : List ℕ → ℕ → Volatile → ℕ → ℕ → ℕ
-unfolding stateNumber before-a-run
-runNumber m fuses v steps room = before-a-run (stateNumber m fuses v) steps room
 
 -- What a run from a packed half comes to, in the card's own terms.
 unfoldable pub ranOn : List ℕ → ℕ → Volatile → List ℕ → Rules.Ran

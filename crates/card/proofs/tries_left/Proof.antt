@@ -3,7 +3,7 @@ use denote.Ref.{now}
 use lib.ListN.{getD, List·getD-eq-default}
 use lib.Count.{onesIn}
 use Rattle.rules.specs.Card.{triesLeft}
-use Rattle.card.proofs.NumberLaws.{ones-of-byte}
+use Rattle.card.proofs.Ones.{ones-of-byte}
 use borrow.Author.Needs.{needs}
 use Rattle.card.proofs.tries_left.Statement.{statement}
 use Rattle.card.proofs.tries_left.Tie as tie

@@ -1,8 +1,8 @@
 use mathlib.Core.Path.{sym}
 use borrow.Author.Needs.{needs}
-use Rattle.card.proofs.NumberLaws.{numberless}
-use Rattle.card.proofs.numbers.quick_state_number.Statement.{statement}
-use Rattle.card.proofs.numbers.quick_state_number.Tie as tie
+use Rattle.checks.proofs.Laws.{numberless}
+use Rattle.checks.proofs.quick_state_number.Statement.{statement}
+use Rattle.checks.proofs.quick_state_number.Tie as tie
 
 plainly-sound-requires : tie.Need-plainly-sound-requires
 plainly-sound-requires c κs = search needs

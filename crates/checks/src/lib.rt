@@ -1,10 +1,10 @@
-// The numbers that are given before any step.
+// The numbers that a step and a run give before anything else.
 use volatile::Volatile;
 ghost use mathlib.Core.Path.{_≡_};
-ghost use Rattle.card.specs.Contracts.{stateNumber, runNumber};
+ghost use Rattle.checks.specs.Numbers.{stateNumber, runNumber};
 
 // 10, 14, 9.
-pub(crate) fn state_number(image: &[u8], fuses: u8, v: Volatile) -> u8
+pub fn state_number(image: &[u8], fuses: u8, v: Volatile) -> u8
     ensures { λ r. ⌜ r ≡ stateNumber (now (image .entry)) fuses v ⌝ }
 {
     if image.len() != 174 {
@@ -20,7 +20,7 @@ pub(crate) fn state_number(image: &[u8], fuses: u8, v: Volatile) -> u8
 }
 
 // The same, by a few tests for the state that most steps start from.
-pub(crate) fn quick_state_number(image: &[u8], fuses: u8, v: Volatile) -> u8
+pub fn quick_state_number(image: &[u8], fuses: u8, v: Volatile) -> u8
     ensures { λ r. ⌜ r ≡ stateNumber (now (image .entry)) fuses v ⌝ }
 {
     if (image.len() == 174) & ((fuses <= 7) & v.plainly_sound()) {
@@ -30,7 +30,7 @@ pub(crate) fn quick_state_number(image: &[u8], fuses: u8, v: Volatile) -> u8
 }
 
 // 10, 14, 9, 18, 19.
-pub(crate) fn run_number(image: &[u8], fuses: u8, v: Volatile, steps: usize, room: usize) -> u8
+pub fn run_number(image: &[u8], fuses: u8, v: Volatile, steps: usize, room: usize) -> u8
     ensures { λ r. ⌜ r ≡ runNumber (now (image .entry)) fuses v steps room ⌝ }
 {
     let number = state_number(image, fuses, v);

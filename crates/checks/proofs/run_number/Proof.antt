@@ -1,9 +1,9 @@
 use mathlib.Core.Path.{sym, _∙_}
 use denote.Ref.{now}
-use Rattle.card.proofs.NumberLaws.{state-first, over-long, no-room, all-well}
+use Rattle.checks.proofs.Laws.{state-first, over-long, no-room, all-well}
 use borrow.Author.Needs.{needs}
-use Rattle.card.proofs.numbers.run_number.Statement.{statement}
-use Rattle.card.proofs.numbers.run_number.Tie as tie
+use Rattle.checks.proofs.run_number.Statement.{statement}
+use Rattle.checks.proofs.run_number.Tie as tie
 
 state-number-requires : tie.Need-state-number-requires
 state-number-requires c κs = search needs

@@ -2,10 +2,10 @@ use mathlib.Core.Path.{sym, _∙_}
 use denote.Ref.{now}
 use lib.ListN.{length}
 use borrow.Author.Tests.{eq-eqb, ne-eqb, lt-ltb, le-ltb}
-use Rattle.card.specs.Contracts.{stateNumber}
+use Rattle.checks.specs.Numbers.{stateNumber}
 use borrow.Author.Needs.{needs}
-use Rattle.card.proofs.numbers.state_number.Statement.{statement}
-use Rattle.card.proofs.numbers.state_number.Tie as tie
+use Rattle.checks.proofs.state_number.Statement.{statement}
+use Rattle.checks.proofs.state_number.Tie as tie
 
 returns : tie.Need-returns
 unfolding stateNumber

@@ -1,18 +1,17 @@
--- The numbers before any step, in the order of their checks; and the tries left as a count of ones.
+-- The numbers before any step, in the order of their checks.
 use Prim.Native.Nat.{ℕ, _≤_, _<_}
 use mathlib.Core.Path.{_≡_, refl, sym, _∙_}
 use mathlib.Core.Bool.{true, _&&_}
 use mathlib.Core.List.{List}
-use lib.Count.{ones, onesIn}
 use lib.Dec.{eqb, leb}
 use lib.ListN.{length}
-use borrow.Author.Tests.{ne-eqb, lt-ltb, le-ltb, leb-true, eqb-true}
+use borrow.Author.Tests.{ne-eqb, lt-ltb, le-ltb, leb-true}
 use Rattle.memory.specs.Image.{bytes}
-use Rattle.memory.proofs.Below.{all, below, and-left, and-right}
+use Rattle.memory.proofs.Below.{and-left, and-right}
 use Rattle.volatile.specs.declared.Volatile.{Volatile}
 use Rattle.volatile.specs.Packed.{plainlySound}
 use Rattle.volatile.proofs.PlainlySound.{plainly-sound}
-use Rattle.card.specs.Contracts.{stateNumber, runNumber}
+use Rattle.checks.specs.Numbers.{stateNumber, runNumber}
 
 -- The few tests let pass no state that is given a number.
 pub numberless :
@@ -39,7 +38,3 @@ module _ (m : List ℕ) (fuses : ℕ) (v : Volatile) (steps room : ℕ) where
   pub all-well : stateNumber m fuses v ≡ 0 → steps ≤ 4096 → steps ≤ room → runNumber m fuses v steps room ≡ 0
   unfolding runNumber
   all-well e h k = rw (e, le-ltb 4096 steps h, le-ltb room steps k)
-
-pub ones-of-byte : (x : ℕ) → x < 256 → ones x ≡ onesIn 8 x
-unfolding all ones onesIn
-ones-of-byte x h = eqb-true (ones x) (onesIn 8 x) (below 256 (λ (y : ℕ). eqb (ones y) (onesIn 8 y)) refl x h)
