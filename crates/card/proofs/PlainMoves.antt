@@ -38,17 +38,33 @@ pub record Quiet (b : ℕ) : Type 0 where
 
 quiet : (a : ℕ) → Plain a → Quiet (a + 1)
 quiet a (inl h) = omega arith
-quiet a (inr h) = omega arith
+quiet a (inr (inl h)) = omega arith
+quiet a (inr (inr (inl h))) = omega arith
+quiet a (inr (inr (inr (inl h)))) = omega arith
+quiet a (inr (inr (inr (inr h)))) = omega arith
+
+-- Outside the code and outside the key.
+apart : (a : ℕ) → Plain a → (between 80 95 a ≡ false) × (between 1200 1231 a ≡ false)
+apart a (inl h) = (under 80 95 a (omega arith), under 1200 1231 a (omega arith))
+apart a (inr (inl h)) = (over 80 95 a (omega arith), under 1200 1231 a (omega arith))
+apart a (inr (inr (inl h))) = (over 80 95 a (omega arith), under 1200 1231 a (omega arith))
+apart a (inr (inr (inr (inl h)))) = (over 80 95 a (omega arith), over 1200 1231 a (omega arith))
+apart a (inr (inr (inr (inr h)))) = (over 80 95 a (omega arith), over 1200 1231 a (omega arith))
 
 uncompared : (l1 sv latch stored : Bool) (a : ℕ) (matched : Bool) → Plain a → compared l1 sv latch stored a matched ≡ matched
 unfolding compared
-uncompared l1 sv latch stored a matched (inl h) = rw (under 80 95 a (omega arith), under 1200 1231 a (omega arith))
-uncompared l1 sv latch stored a matched (inr h) = rw (over 80 95 a (omega arith), under 1200 1231 a (omega arith))
+uncompared l1 sv latch stored a matched plain = rw (apart a plain .0, apart a plain .1)
+
+pub plain-below : (a : ℕ) → Plain a → a < 1519
+plain-below a (inl h) = omega arith
+plain-below a (inr (inl h)) = omega arith
+plain-below a (inr (inr (inl h))) = omega arith
+plain-below a (inr (inr (inr (inl h)))) = omega arith
+plain-below a (inr (inr (inr (inr h)))) = omega arith
 
 counted : (a : ℕ) → Plain a → following a ≡ a + 1
 unfolding following
-counted a (inl h) = rw (ne-eqb a 1519 (omega arith))
-counted a (inr h) = rw (ne-eqb a 1519 (omega arith))
+counted a plain = rw (ne-eqb a 1519 (omega (arith, plain-below a plain)))
 
 pin-of :
     (m : List ℕ) (fuses : ℕ) (v : Volatile) (n : ℕ) (t : Bool) → t ≡ driven-on fuses v n →
@@ -104,7 +120,3 @@ module _ (fuses : ℕ) (v : Volatile) (n : ℕ) (lines : bitAnd n 11 ≡ 1) wher
   az-driven h k =
       sv-or-r1 (v .flags) ∙
       sym (ready n _ lines ∙ az-readable (held fuses (goneOn n (v .address + 1) (unpacked v))) (v .address + 1) (omega arith) (omega arith))
-
-pub plain-below : (a : ℕ) → Plain a → a < 1198
-plain-below a (inl h) = omega arith
-plain-below a (inr h) = h .1

@@ -1,9 +1,8 @@
 -- The steps that are told without the loop of a run: what each comes to, and what a single step answers of it.
 use Prim.Native.Nat.{ℕ, _+_, _≤_, _<_}
 use native.Mathlib.Omega.{arith}
-use mathlib.Core.Logic.{inl, inr}
 use mathlib.Core.Path.{_≡_, refl, ap, _∙_}
-use mathlib.Core.Bool.{Bool, true, false, not, _&&_, _||_, and-false}
+use mathlib.Core.Bool.{true, false, not, _&&_, and-false}
 use mathlib.Core.List.{List, []}
 use lib.Dec.{ltb, leb}
 use lib.Bits.{bitXor}
@@ -87,12 +86,7 @@ module _ (v : Volatile) (n : ℕ) where
         memory = rw z (steps .memory-is);
       }
 
--- Where the address is, by one test.
-pub plain-by : (a : ℕ) → (ltb a 79 || (leb 177 a && ltb a 1198)) ≡ true → Plain a
-plain-by a e = go (ltb a 79) refl
-  where
-    go : (t : Bool) → ltb a 79 ≡ t → Plain a
-    go true q = inl (ltb-true a 79 q)
-    go false q =
-        let rest : (leb 177 a && ltb a 1198) ≡ true = rw q at e in
-        inr (leb-true 177 a (and-left (leb 177 a) (ltb a 1198) rest), ltb-true a 1198 (and-right (leb 177 a) (ltb a 1198) rest))
+-- A range, by its test.
+pub within : (first end a : ℕ) → (leb first a && ltb a end) ≡ true → (first ≤ a) × (a < end)
+within first end a e =
+    (leb-true first a (and-left (leb first a) (ltb a end) e), ltb-true a end (and-right (leb first a) (ltb a end) e))

@@ -5,12 +5,31 @@ ghost use mathlib.Core.Path.{_≡_};
 ghost use mathlib.Core.Bool.{true, false};
 ghost use lib.Bits.{bitXor};
 ghost use Rattle.memory.specs.Image.{digit};
-ghost use Rattle.card.specs.Moves.{QuickTo};
+ghost use Rattle.card.specs.Moves.{Plain, QuickTo};
 
 // The half that such a step comes to. Any other step is left to the run.
 pub(crate) enum Quick {
     To(Volatile),
     Other,
+}
+
+// Whether a move from a compares nothing and arrives where nothing comes of it.
+pub(crate) fn is_plain(a: u32) -> bool
+    ensures { λ r. ⌜ (r ≡ true → Plain a) ⌝ }
+{
+    if a < 177 {
+        if a < 79 {
+            return true;
+        }
+        return (104 <= a) & (a < 175);
+    }
+    if a < 1198 {
+        return true;
+    }
+    if a < 1360 {
+        return (1232 <= a) & (a < 1359);
+    }
+    a < 1519
 }
 
 // CLK rises, or falls where nothing is compared and nothing comes of the arrival.
@@ -28,7 +47,7 @@ pub(crate) fn clock(v: Volatile, n: u32) -> Quick
         return Quick::Other;
     }
     let a = v.address;
-    if (a < 79) | ((177 <= a) & (a < 1198)) {
+    if is_plain(a) {
         return Quick::To(v.goes_on(n, a + 1));
     }
     Quick::Other

@@ -1,26 +1,20 @@
 -- The numbers before any step, in the order of their checks.
 use Prim.Native.Nat.{ℕ, _≤_, _<_}
-use mathlib.Core.Path.{_≡_, refl, sym, _∙_}
-use mathlib.Core.Bool.{true, _&&_}
+use mathlib.Core.Path.{_≡_}
+use mathlib.Core.Bool.{true}
 use mathlib.Core.List.{List}
-use lib.Dec.{eqb, leb}
 use lib.ListN.{length}
-use borrow.Author.Tests.{ne-eqb, lt-ltb, le-ltb, leb-true}
+use borrow.Author.Tests.{eq-eqb, ne-eqb, lt-ltb, le-ltb}
 use Rattle.memory.specs.Image.{bytes}
-use Rattle.memory.proofs.Below.{and-left, and-right}
 use Rattle.volatile.specs.declared.Volatile.{Volatile}
 use Rattle.volatile.specs.Packed.{plainlySound}
 use Rattle.volatile.proofs.PlainlySound.{plainly-sound}
 use Rattle.checks.specs.Numbers.{stateNumber, runNumber}
 
 -- The few tests let pass no state that is given a number.
-pub numberless :
-    (m : List ℕ) (fuses : ℕ) (v : Volatile) → (eqb (length m) bytes && (leb fuses 7 && plainlySound v)) ≡ true → stateNumber m fuses v ≡ 0
+pub numberless : (m : List ℕ) (fuses : ℕ) (v : Volatile) → length m ≡ bytes → fuses ≤ 7 → plainlySound v ≡ true → stateNumber m fuses v ≡ 0
 unfolding stateNumber
-numberless m fuses v e =
-    let sized = and-left (eqb (length m) bytes) _ e in
-    let rest = and-right (eqb (length m) bytes) _ e in
-    rw (sized, le-ltb 7 fuses (leb-true fuses 7 (and-left (leb fuses 7) _ rest)), plainly-sound v (and-right (leb fuses 7) _ rest))
+numberless m fuses v sized few plain = rw (eq-eqb (length m) bytes sized, le-ltb 7 fuses few, plainly-sound v plain)
 
 module _ (m : List ℕ) (fuses : ℕ) (v : Volatile) (steps room : ℕ) where
   pub state-first : (k : ℕ) → stateNumber m fuses v ≡ k → (k ≡ 0 → ⊥) → runNumber m fuses v steps room ≡ k

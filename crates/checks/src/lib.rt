@@ -23,8 +23,12 @@ pub fn state_number(image: &[u8], fuses: u8, v: Volatile) -> u8
 pub fn quick_state_number(image: &[u8], fuses: u8, v: Volatile) -> u8
     ensures { λ r. ⌜ r ≡ stateNumber (now (image .entry)) fuses v ⌝ }
 {
-    if (image.len() == 174) & ((fuses <= 7) & v.plainly_sound()) {
-        return 0;
+    if image.len() == 174 {
+        if fuses <= 7 {
+            if v.plainly_sound() {
+                return 0;
+            }
+        }
     }
     state_number(image, fuses, v)
 }

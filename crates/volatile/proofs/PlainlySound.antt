@@ -3,7 +3,7 @@ use Prim.Native.Nat.{ℕ, _≤_, _<_}
 use native.Mathlib.Omega.{arith}
 use mathlib.Core.Path.{_≡_, refl}
 use mathlib.Core.Bool.{Bool, true, false, not, _&&_, _||_, false≢true}
-use borrow.Author.Tests.{ltb-true, leb-true, le-ltb, not-true}
+use borrow.Author.Tests.{ltb-false, le-ltb, not-true}
 use Rattle.memory.specs.Image.{digit}
 use Rattle.memory.proofs.Below.{and-left, and-right}
 use Rattle.rules.specs.Lines.{high, place}
@@ -58,7 +58,9 @@ module _ (v : Volatile) where
       let lines = both _ _ e in
       let flags = both _ _ (lines .1) in
       let rest = both _ _ (flags .1) in
-      let l = ltb-true (v .lines) 64 (lines .0) in
-      let f = ltb-true (v .flags) 32 (flags .0) in
-      clear-sound l f (leb-true (v .address) 1519 (rest .1))
-      (then (wired (v .lines) (v .flags)) (clear (v .lines) (v .flags)) (cleared-by (v .lines) (v .flags) l f) (rest .0))
+      let l = ltb-false 63 (v .lines) (not-true _ (lines .0)) in
+      let f = ltb-false 31 (v .flags) (not-true _ (flags .0)) in
+      let small : v .lines < 64 = omega arith in
+      let few : v .flags < 32 = omega arith in
+      clear-sound small few (ltb-false 1519 (v .address) (not-true _ (rest .0)))
+      (then (wired (v .lines) (v .flags)) (clear (v .lines) (v .flags)) (cleared-by (v .lines) (v .flags) small few) (rest .1))

@@ -1,8 +1,8 @@
 -- The volatile half as the code holds it: three words, with the flags and the latch as the digits of one.
-use Prim.Native.Nat.{ℕ, _+_, _*_}
+use Prim.Native.Nat.{ℕ, _+_, _*_, _/_, _%_, _^_}
 use mathlib.Core.Bool.{Bool, true, false, cond, not, _&&_, _||_}
 use mathlib.Core.List.{List}
-use lib.Dec.{eqb, ltb, leb}
+use lib.Dec.{eqb, ltb}
 use lib.Bits.{bitAnd}
 use Rattle.memory.specs.Image.{digit, bit}
 use Rattle.rules.specs.declared.Operation.{Operation}
@@ -59,16 +59,15 @@ unfoldable pub madeUpWord : Volatile → Bool
 unfolding unpacked
 madeUpWord v = ltb 127 (v .flags) || madeUp (unpacked v)
 
--- Levels and flags of a powered half: latch and programming with CLK high alone, and programming where CLK and PGM are high.
+-- Levels and flags of a powered half: latch and programming with CLK high alone, and programming where CLK and PGM are high. The digits
+-- of 0xa2a7 say which of the sixteen ways that CLK, PGM, programming and the latch stand together are such.
 unfoldable pub wired : ℕ → ℕ → Bool
-wired lines flags =
-    eqb (bitAnd lines 1) 1 &&
-    ((eqb (bitAnd flags 24) 0 || not (eqb (bitAnd lines 4) 0)) && (not (eqb (bitAnd lines 12) 12) || not (eqb (bitAnd flags 8) 0)))
+wired lines flags = eqb (bitAnd lines 1) 1 && eqb (0xa2a7 / 2 ^ (lines / 4 % 4 + 4 * (flags / 8 % 4)) % 2) 1
 
 -- A powered half outside match and E1, by a few tests of its words.
 unfoldable pub plainlySound : Volatile → Bool
 unfolding wired
-plainlySound v = ltb (v .lines) 64 && (ltb (v .flags) 32 && (wired (v .lines) (v .flags) && leb (v .address) 1519))
+plainlySound v = not (ltb 63 (v .lines)) && (not (ltb 31 (v .flags)) && (not (ltb 1519 (v .address)) && wired (v .lines) (v .flags)))
 
 -- The things that a right may ask for and that are not there, as a mask.
 unfoldable pub lackingOf : Held → ℕ

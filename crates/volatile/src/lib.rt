@@ -45,6 +45,10 @@ pub const EC_EN: u32 = 1;
 
 pub const ISS: u32 = 2;
 
+// Of CLK, PGM, programming and the latch, as digits 0 to 3 of a place: the sixteen ways that they stand together, 1 for those that 9 lets
+// pass with VCC on.
+const WIRED: u32 = 0xa2a7;
+
 // The volatile half: line levels, address, and the flags as one word. Three wide fields stay in registers.
 #[repr(C)]
 pub struct Volatile {
@@ -346,12 +350,17 @@ impl Volatile {
     pub fn plainly_sound(self) -> bool
         ensures { λ r. ⌜ r ≡ plainlySound self ⌝ }
     {
-        let lines = self.lines;
-        let flags = self.flags;
-        let clocked = (flags & 24 == 0) | (lines & 4 != 0);
-        let started = (lines & 12 != 12) | (flags & 8 != 0);
-        let wired = (lines & 1 == 1) & (clocked & started);
-        (lines < 64) & ((flags < 32) & (wired & (self.address <= 1519)))
+        if 63 < self.lines {
+            return false;
+        }
+        if 31 < self.flags {
+            return false;
+        }
+        if 1519 < self.address {
+            return false;
+        }
+        let wires = self.lines / 4 % 4 + 4 * (self.flags / 8 % 4);
+        (self.lines & 1 == 1) & ((WIRED >> wires) % 2 == 1)
     }
 
     // 9: a made-up state.

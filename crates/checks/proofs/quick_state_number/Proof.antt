@@ -1,4 +1,4 @@
-use mathlib.Core.Path.{sym}
+use mathlib.Core.Path.{sym, _∙_}
 use borrow.Author.Needs.{needs}
 use Rattle.checks.proofs.Laws.{numberless}
 use Rattle.checks.proofs.quick_state_number.Statement.{statement}
@@ -8,7 +8,9 @@ plainly-sound-requires : tie.Need-plainly-sound-requires
 plainly-sound-requires c κs = search needs
 
 returns : tie.Need-returns
-returns c = sym (numberless _ _ _ (rw (c .before .plainly-sound .ensures) at (c .if1 .taken)))
+returns c =
+    let few = c .before .before in
+    sym (numberless _ _ _ (few .before .if1 .taken) (few .if2 .taken) (sym (c .before .plainly-sound .ensures) ∙ c .if3 .taken))
 
 state-number-requires : tie.Need-state-number-requires
 state-number-requires c κs = search needs

@@ -11,7 +11,7 @@ returns : tie.Need-returns
 returns c = search needs
 
 clock-goes-on-requires-2 : tie.Need-clock-goes-on-requires-2
-clock-goes-on-requires-2 c κs = (inr (c .before .before .if3 .taken, c .before .if4 .taken), az-driven (c .before .before .before .before .before .before .args .fuses) (c .before .before .before .before .before .before .args .v) (c .before .before .before .before .before .before .args .n) (c .before .before .before .before .if1 .taken) (c .before .before .if3 .taken) (c .before .if4 .taken))
+clock-goes-on-requires-2 c κs = (inr (inl (c .before .before .if3 .taken, c .before .if4 .taken)), az-driven (c .before .before .before .before .before .before .args .fuses) (c .before .before .before .before .before .before .args .v) (c .before .before .before .before .before .before .args .n) (c .before .before .before .before .if1 .taken) (c .before .before .if3 .taken) (c .before .if4 .taken))
 
 returns-2 : tie.Need-returns-2
 returns-2 c = search needs

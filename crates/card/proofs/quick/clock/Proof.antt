@@ -9,7 +9,7 @@ use Rattle.card.specs.Moves.{QuickTo}
 use Rattle.card.proofs.Turned.{by-difference}
 use Rattle.card.proofs.ByLine.{clk-unpowered-goes, clk-rises-goes}
 use Rattle.card.proofs.PlainMoves.{plain-below}
-use Rattle.card.proofs.WithoutLoop.{quick-by, goes-plainly, plain-by}
+use Rattle.card.proofs.WithoutLoop.{quick-by, goes-plainly}
 use Rattle.card.proofs.quick.clock.Statement.{statement}
 use Rattle.card.proofs.quick.clock.Tie as tie
 
@@ -57,10 +57,13 @@ returns-3 : tie.Need-returns-3
 unfolding QuickTo
 returns-3 c = tt
 
+is-plain-requires : tie.Need-is-plain-requires
+is-plain-requires c κs = search needs
+
 add-goes-on : tie.Need-add-goes-on
 add-goes-on c =
-    let a = c .before .before .before .before .before .before .before .before .args .v .address in
-    omega (arith, plain-below a (plain-by a (c .if4 .taken)))
+    let a = c .before .before .before .before .before .before .before .before .before .args .v .address in
+    omega (arith, plain-below a (c .before .is-plain .ensures (c .if4 .taken)))
 
 goes-on-requires : tie.Need-goes-on-requires
 goes-on-requires c κs = search needs
@@ -68,7 +71,7 @@ goes-on-requires c κs = search needs
 returns-4 : tie.Need-returns-4
 unfolding high place unpacked by-difference change
 returns-4 c =
-    let counting = c .before .before in
+    let counting = c .before .before .before in
     let high-clk = counting .before .before .before in
     let on = high-clk .before .before in
     let start = on .before .before in
@@ -79,7 +82,7 @@ returns-4 c =
     let programming = sym (counting .before .is-set4 .ensures) ∙ idle .1 in
     rw (c .goes-on .ensures)
     (quick-by (start .args .v) (start .args .n) CLK 4 _ (omega arith) refl (start .pre)
-    (goes-plainly (start .args .v) (start .args .n) vcc clk programming rst (plain-by _ (c .before .if4 .taken))))
+    (goes-plainly (start .args .v) (start .args .n) vcc clk programming rst (c .before .before .is-plain .ensures (c .before .if4 .taken))))
 
 returns-5 : tie.Need-returns-5
 unfolding QuickTo
@@ -98,6 +101,7 @@ clock-spec =
     is-set-requires-3
     is-set-requires-4
     returns-3
+    is-plain-requires
     add-goes-on
     goes-on-requires
     returns-4

@@ -1,11 +1,36 @@
-use mathlib.Core.Path.{refl}
+use borrow.Author.Tests.{lt-ltb, le-ltb}
 use Rattle.volatile.specs.Packed.{wired, plainlySound}
+use borrow.Author.Needs.{needs}
 use Rattle.volatile.proofs.Volatile.plainly_sound.Statement.{statement}
 use Rattle.volatile.proofs.Volatile.plainly_sound.Tie as tie
 
 returns : tie.Need-returns
+unfolding plainlySound
+returns c = rw (lt-ltb 63 _ (c .if1 .taken))
+
+returns-2 : tie.Need-returns-2
+unfolding plainlySound
+returns-2 c = rw (le-ltb 63 _ (c .before .before .if1 .left), lt-ltb 31 _ (c .if2 .taken))
+
+returns-3 : tie.Need-returns-3
+unfolding plainlySound
+returns-3 c = rw (le-ltb 63 _ (c .before .before .before .before .if1 .left), le-ltb 31 _ (c .before .before .if2 .left), lt-ltb 1519 _ (c .if3 .taken))
+
+mul-wires : tie.Need-mul-wires
+mul-wires c = search needs
+
+add-wires : tie.Need-add-wires
+add-wires c = search needs
+
+shr-result : tie.Need-shr-result
+shr-result c = search needs
+
+returns-4 : tie.Need-returns-4
 unfolding plainlySound wired
-returns c = refl
+returns-4 c =
+    let placed = c .before .before .before in
+    rw (le-ltb 63 _ (placed .before .before .before .before .if1 .left), le-ltb 31 _ (placed .before .before .if2 .left), le-ltb 1519 _ (placed .if3 .left))
 
 pub plainly-sound-spec : {M : Type 1} → statement M
-plainly-sound-spec = tie.close (tie.spec returns)
+plainly-sound-spec =
+    tie.close (tie.spec returns returns-2 returns-3 mul-wires add-wires shr-result returns-4)
