@@ -69,6 +69,10 @@ fn lesson(text: &[u8], session: &[u8], shows: &[u8]) {
     say(shows);
     say(b"\n");
     say(text);
+    if (n == 0) | (m == 0) {
+        say(b": cannot be read here\n\n");
+        return;
+    }
     say(b": ");
     tell(&source[..n], &recorded[..m]);
     four_lines(&recorded[..m]);

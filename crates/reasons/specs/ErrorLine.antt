@@ -12,12 +12,12 @@ unfoldable pub table : List (ℕ × String)
 table =
     (77, "the text is longer than 65,536 bytes") ∷
     (71, "no line starts with this word") ∷
-    (72, "other words than this line takes") ∷
+    (72, "a word too many, too few or not of this line") ∷
     (73, "a number is too large for its place") ∷
     (74, "the image and the fuses come before the first step") ∷
-    (75, "the lines are not where this act starts") ∷
+    (75, "this act does not start from these levels") ∷
     (21, "a walk over 1519") ∷
-    (23, "no one in bits 96 to 103") ∷
+    (23, "no 1 in bits 96 to 103: no try left") ∷
     (22, "more than 4,096 steps") ∷
     (76, "no room") ∷
     []
