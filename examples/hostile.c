@@ -68,7 +68,9 @@ static uint8_t expected(size_t length, uint8_t fuses, ZhavVolatile half) {
 
 static void card_calls(size_t length, uint8_t fuses, ZhavVolatile half) {
     uint8_t *image = block(length), *before = copy(image, length);
-    uint8_t n = (uint8_t)chance(), number = expected(length, fuses, half);
+    /* Any byte, or one line turned over. */
+    uint8_t n = (uint8_t)(chance() % 2 ? chance() : half.lines ^ 1u << chance() % 6);
+    uint8_t number = expected(length, fuses, half);
 
     ZhavStepped stepped = zhav_step(image, length, fuses, half, n);
     count(stepped.refusal);

@@ -14,7 +14,8 @@
  * bytes, any words, any lengths, the call answers, and touches no byte outside
  * the buffers.
  *
- * A refused call gives a number of ZhavRefusal and changes nothing.
+ * A refused call gives a number of ZhavRefusal and changes nothing, but for a run
+ * that ends in a refused step: the steps before it are done.
  */
 
 #ifndef ZHAVDURGON_H
@@ -84,7 +85,7 @@ enum ZhavRefusal {
     ZHAV_ANSWERS_SHORT = 19,        /* a buffer for fewer answers than there are steps */
     ZHAV_WALK = 21,                 /* a walk over 1519 */
     ZHAV_BUFFER = 22,               /* a buffer too small for the steps of the act */
-    ZHAV_NO_TRY = 23                /* no one in the byte of tries */
+    ZHAV_NO_TRY = 23                /* no 1 in the byte of bits 96 to 103: no try left */
 };
 
 /*
@@ -154,7 +155,8 @@ ZhavStepped zhav_step(uint8_t *image, size_t image_len, uint8_t fuses, ZhavVolat
                       uint8_t n);
 
 /*
- * One step that changes the volatile half where it stands; else as zhav_step.
+ * One step that changes the volatile half where it stands; else as zhav_step. The
+ * fuse byte is handed back: a step can blow a fuse, so the caller stores it.
  */
 ZhavTold zhav_step_at(uint8_t *image, size_t image_len, uint8_t fuses, ZhavVolatile *v,
                       uint8_t n);
@@ -173,7 +175,7 @@ ZhavRan zhav_run(uint8_t *image, size_t image_len, uint8_t fuses, ZhavVolatile v
 /* SV, P1, R1 and E1, which no pin shows. Refused by 9. */
 ZhavFlags zhav_flags(ZhavVolatile v);
 
-/* The tries left: the ones in bits 96 to 103, 0 to 8; 0 for an image of under 13
+/* The tries left: the 1s in bits 96 to 103, 0 to 8; 0 for an image of under 13
  * bytes. Never refused. */
 uint32_t zhav_tries_left(const uint8_t *image, size_t image_len);
 
@@ -204,8 +206,8 @@ ZhavMade zhav_blow(uint8_t fus, uint8_t *out, size_t out_len);
 
 /*
  * Opens a card with its code and its byte of bits 96 to 103 (byte 12 of the
- * image): reset, walk to 80, show the code, walk on to the first one of that byte,
- * write, erase. 223 steps and 2 for every zero before that one. Refused by 23
+ * image): reset, walk to 80, show the code, walk on to the first 1 of that byte,
+ * write, erase. 223 steps and 2 for every 0 before that 1. Refused by 23
  * before 22.
  */
 ZhavMade zhav_open(uint8_t fus, uint16_t code, uint8_t attempts, uint8_t *out,

@@ -118,7 +118,12 @@ fn main() -> ExitCode {
             _ => None,
         };
         if known.is_none() {
-            eprintln!("compare: what is {word}?");
+            eprintln!(
+                "compare: what is {word}?\n\
+                 compare [--steps N] [--seed N]\n\
+                 compare --mutants [--seconds N]\n\
+                 compare --record FILE [--sessions N] [--seed N]"
+            );
             return ExitCode::from(2);
         }
     }

@@ -3,12 +3,47 @@
 //!
 //! The card has a lasting half, an image of 174 bytes and a fuse byte, and a
 //! volatile half, [`Volatile`]. The caller keeps both; the library keeps nothing.
-//! A refusal is a number, named in [`refusal`]; a refused call changes nothing.
+//! A refusal is a number, named in [`refusal`]; a refused call changes nothing,
+//! but for a run that ends in a refused step: the steps before it are done.
+//!
+//! ```
+//! use zhavdurgon::{line, run, Volatile};
+//!
+//! let (mut image, mut answers) = ([255; 174], [0; 2]);
+//! let ran = run(&mut image, 7, Volatile::fresh(), &[line::IO, line::IO | line::VCC], &mut answers);
+//! assert_eq!((ran.done, ran.refusal, answers), (2, 0, [1, 1]));
+//! ```
 
 #![warn(missing_docs)]
 
 mod calls;
 pub mod refusal;
+
+/// The lines of a step: a byte of levels, in which a set bit is a high line.
+pub mod line {
+    /// Power.
+    pub const VCC: u8 = 1;
+    /// Reset.
+    pub const RST: u8 = 2;
+    /// The clock.
+    pub const CLK: u8 = 4;
+    /// The program line.
+    pub const PGM: u8 = 8;
+    /// Data; high: the host lets go of the line.
+    pub const IO: u8 = 16;
+    /// The fuse line: high is level 1 while ISS is unblown.
+    pub const FUS: u8 = 32;
+}
+
+/// The fuses in their byte, in which a set bit is an unblown fuse.
+pub mod fuse {
+    /// The manufacturer's fuse.
+    pub const MF: u8 = 1;
+    /// The fuse that lets the erase counter be used.
+    pub const EC_EN: u8 = 2;
+    /// The issuer's fuse.
+    pub const ISS: u8 = 4;
+}
 
 /// Bytes of the image.
 pub const IMAGE_BYTES: usize = 174;

@@ -13,11 +13,11 @@ use Rattle.rules.specs.Steps.{next, pin}
 use Rattle.rules.specs.Card.{added, ended, run, stepped, answered, answersIn}
 use Rattle.rules.proofs.Tests.{peel}
 use Rattle.volatile.specs.declared.Volatile.{Volatile}
-use Rattle.volatile.specs.Packed.{packed, unpacked, cardOf}
+use Rattle.volatile.specs.Packed.{unpacked, cardOf}
 use Rattle.card.specs.declared.Ran.{Ran}
 use Rattle.card.specs.Moves.{ranTo, Runs}
 use Rattle.checks.specs.Numbers.{stateNumber, runNumber}
-use Rattle.card.specs.Contracts.{ranOn, runAnswer, runMemory, runAnswers, stepAnswer, stepMemory}
+use Rattle.card.specs.Contracts.{runAnswer, runMemory, runAnswers, stepAnswer, stepMemory}
 use Rattle.card.specs.Contracts.{StepAnswered, RunAnswered}
 
 -- A chain of numbers that comes to 0 has none.

@@ -4,12 +4,12 @@ use native.Mathlib.Omega.{arith}
 use mathlib.Core.Path.{_≡_, refl, sym, ap, _∙_}
 use mathlib.Core.Bool.{Bool, true, false, cond, not, _&&_, _||_, and-false}
 use mathlib.Core.List.{List, []}
-use lib.Dec.{eqb, ltb}
+use lib.Dec.{ltb}
 use lib.Bits.{bitXor}
-use borrow.Author.Tests.{lt-ltb, ltb-false, not-false, ne-eqb}
+use borrow.Author.Tests.{lt-ltb, ltb-false, ne-eqb}
 use Rattle.rules.specs.Halves as Halves
 use Rattle.rules.specs.Halves.{Card, off}
-use Rattle.rules.specs.Lines.{Line, VCC, RST, CLK, PGM, IO, FUS, place, high, Edge, Same, Rises, Falls, Many, change, edge}
+use Rattle.rules.specs.Lines.{Line, VCC, RST, CLK, PGM, IO, FUS, place, high, Same, Rises, Falls, Many, change, edge}
 use Rattle.rules.specs.Rights.{held}
 use Rattle.rules.specs.Refusals.{madeUp, many, edgeRefusal, refusal}
 use Rattle.rules.specs.Match.{arrived}
@@ -19,7 +19,7 @@ use Rattle.rules.proofs.Soundness.{Sound, sound}
 use Rattle.volatile.specs.declared.Volatile.{Volatile}
 use Rattle.volatile.specs.Packed.{packed, unpacked, cardOf, madeUpWord, operationNow}
 use Rattle.volatile.proofs.Packing.{packed-unpacked}
-use Rattle.card.specs.Moves.{Ready, moved, movedTo, programmedCard, movedBy, Steps}
+use Rattle.card.specs.Moves.{Ready, moved, movedTo, programmedCard, Steps}
 use Rattle.card.proofs.Turned.{by-difference, edge-by-difference, small-step, Turned, turned-by}
 use Rattle.card.proofs.EdgeLaws.{released, goes-to, stays, reads, keeps, refusal-at, next-at}
 use Rattle.card.proofs.EdgeLaws.{same-number, clk-number, pgm-number, rst-number, fus-number, io-number, vcc-number}

@@ -1,24 +1,21 @@
 -- What each edge's function hands on is what the definitions give for that edge.
-use Prim.Native.Nat.{ℕ, suc, _≤_, _<_}
+use Prim.Native.Nat.{ℕ, suc, _<_}
 use native.Mathlib.Omega.{arith}
-use mathlib.Core.Path.{_≡_, refl, sym, ap, _∙_}
-use mathlib.Core.Bool.{Bool, true, false, cond, not, _&&_, _||_, and-false}
+use mathlib.Core.Path.{_≡_, refl, sym, _∙_}
+use mathlib.Core.Bool.{Bool, true, false, cond, not, _&&_, _||_}
 use mathlib.Core.List.{List}
-use lib.Dec.{eqb, ltb}
-use borrow.Author.Tests.{ne-eqb, le-ltb, lt-ltb}
+use lib.Dec.{eqb}
+use borrow.Author.Tests.{ne-eqb, le-ltb}
 use Rattle.rules.specs.Halves as Halves
 use Rattle.rules.specs.Halves.{Card}
-use Rattle.rules.specs.Lines.{Line, VCC, RST, CLK, PGM, IO, FUS, place, high, Edge, Same, Rises, Falls, Many, change, edge}
-use Rattle.rules.specs.Rights.{held}
+use Rattle.rules.specs.Lines.{Line, VCC, RST, CLK, PGM, IO, FUS, high, Edge, Same, Rises, Falls, change, edge}
 use Rattle.rules.specs.Refusals.{many, rises, falls, changes, edgeRefusal, refusal}
 use Rattle.rules.specs.Steps.{follows, withVolatile, powered, next, driven, pin}
 use Rattle.rules.specs.Card.{stepped}
 use Rattle.volatile.specs.declared.Volatile.{Volatile}
 use Rattle.volatile.specs.Packed.{packed, unpacked, cardOf}
-use Rattle.card.specs.declared.handed.Moved.{Moved}
 use Rattle.card.specs.Moves.{moved, movedTo, movedBy, Steps}
 use Rattle.card.proofs.HandedOn.{accepts}
-use Rattle.card.proofs.Turned.{Turned}
 
 -- Without VCC, with RST or PGM high, or in programming the line is released.
 pub released : (c : Card) → driven c ≡ false → pin c ≡ 1

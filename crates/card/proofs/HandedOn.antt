@@ -1,6 +1,6 @@
 -- What the loop hands on, in the definitions' terms.
 use Prim.Native.Nat.{ℕ}
-use mathlib.Core.Path.{_≡_, refl}
+use mathlib.Core.Path.{_≡_}
 use mathlib.Core.List.{List}
 use Rattle.rules.specs.Halves as Halves
 use Rattle.rules.specs.Halves.{EC-EN, unblown}

@@ -1,14 +1,14 @@
 -- The run's loop: what holds before each step, and what the run has come to when it ends.
-use Prim.Native.Nat.{ℕ, zero, suc, _+_, _≤_, _<_}
+use Prim.Native.Nat.{ℕ, suc, _+_, _≤_, _<_}
 use native.Mathlib.Omega.{arith}
 use native.Mathlib.Numerals.{add-one}
 use mathlib.Core.Path.{_≡_, refl, sym, ap, _∙_}
 use mathlib.Core.Bool.{Bool, true, false, cond, not}
-use mathlib.Core.List.{List, [], _∷_, _++_, append-nil}
+use mathlib.Core.List.{List, _∷_, _++_, append-nil}
 use lib.Dec.{eqb, ltb}
-use lib.ListN.{length, getD, set, take, drop, length-set, take-append-drop, drop-of-length-le, length-take}
+use lib.ListN.{length, getD, set, take, drop, length-set, take-append-drop, drop-of-length-le}
 use lib.Seq.{drop-cons, take-suc-set, append-snoc, drop-set-lt, drop-drop, length-take-le}
-use borrow.Author.Tests.{eqb-true, eqb-false, eq-eqb, ne-eqb, le-ltb, ltb-false, not-false}
+use borrow.Author.Tests.{eqb-true, eq-eqb, le-ltb, ltb-false, not-false}
 use Rattle.memory.specs.Image.{bytes}
 use Rattle.rules.specs.Halves as Halves
 use Rattle.rules.specs.Halves.{Card}

@@ -1,28 +1,21 @@
 -- A plain move: what CLK's fall does where nothing is compared and nothing comes of the arrival, and which of its bits are driven.
-use Prim.Native.Nat.{ℕ, _+_, _%_, _≤_, _<_}
+use Prim.Native.Nat.{ℕ, _+_, _≤_, _<_}
 use native.Mathlib.Omega.{arith}
-use native.Mathlib.Nat.{mod-lt}
-use mathlib.Core.Logic.{_⊎_, inl, inr}
+use mathlib.Core.Logic.{inl, inr}
 use mathlib.Core.Path.{_≡_, refl, sym, ap, _∙_}
-use mathlib.Core.Bool.{Bool, true, false, cond, not, _&&_, _||_, Bool·beq, false≢true}
-use mathlib.Core.List.{List, []}
-use lib.Dec.{eqb, leb}
+use mathlib.Core.Bool.{Bool, true, false, cond, not, _&&_, false≢true}
+use mathlib.Core.List.{List}
+use lib.Dec.{eqb}
 use lib.Bits.{bitAnd}
-use borrow.Author.Tests.{ne-eqb, le-leb, lt-leb}
+use borrow.Author.Tests.{ne-eqb}
 use Rattle.memory.specs.Image.{digit, bit}
-use Rattle.memory.proofs.Below.{all, below}
-use Rattle.rules.specs.declared.Zone.{Zone}
-use Rattle.rules.specs.declared.Zone.the-variants.{FZ, IZ, AZ}
-use Rattle.rules.specs.Halves.{Card}
-use Rattle.rules.specs.Zones.{between, zone}
-use Rattle.rules.specs.Rights.{Held, held, level1, granted, table, others, rights, mayRead}
+use Rattle.rules.specs.Zones.{between}
+use Rattle.rules.specs.Rights.{held, level1}
 use Rattle.rules.specs.Match.{compared, following, endsMatch, arrived}
 use Rattle.rules.specs.Steps.{withVolatile, unlatched, clocked, driven, pin}
-use Rattle.rules.proofs.Tests.{beq-true}
 use Rattle.volatile.specs.declared.Volatile.{Volatile}
 use Rattle.volatile.specs.Packed.{packed, unpacked, cardOf, goneOn}
 use Rattle.volatile.proofs.Between.{under, over}
-use Rattle.volatile.proofs.Packing.{digit-low, mask-low}
 use Rattle.volatile.proofs.Readable.{low-readable, az-readable, sv-or-r1}
 use Rattle.volatile.proofs.Sums.{ready}
 use Rattle.card.specs.Moves.{moved, movedTo, Plain, driven-on}

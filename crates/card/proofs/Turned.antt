@@ -1,5 +1,5 @@
 -- Which line a step turns over, by the difference of the levels.
-use Prim.Native.Nat.{ℕ, zero, suc, _/_, _<_}
+use Prim.Native.Nat.{ℕ, _/_, _<_}
 use native.Mathlib.Omega.{arith}
 use native.Mathlib.Nat.{div-eq-of-lt}
 use mathlib.Core.Path.{_≡_, refl, sym, ap, _∙_}

@@ -1,14 +1,11 @@
 -- What each call of the card answers and leaves, for every input.
 use Prim.Native.Nat.{ℕ}
 use mathlib.Core.Path.{_≡_}
-use mathlib.Core.Bool.{cond, not}
+use mathlib.Core.Bool.{cond}
 use mathlib.Core.List.{List}
-use lib.Dec.{eqb, ltb}
+use lib.Dec.{eqb}
 use lib.ListN.{length}
-use Rattle.memory.specs.Image.{bytes}
-use Rattle.rules.specs.declared.Answer.{Answer}
 use Rattle.rules.specs.declared.Answer.the-variants.{Refused}
-use Rattle.rules.specs.Halves.{Card}
 use Rattle.rules.specs.Card as Rules
 use Rattle.volatile.specs.declared.Volatile.{Volatile}
 use Rattle.card.specs.declared.Stepped.{Stepped}
@@ -17,7 +14,6 @@ use Rattle.card.specs.declared.FlagsAnswer.{FlagsAnswer}
 use Rattle.card.specs.declared.FlagsAnswer.the-variants.{Held, Refused as Barred}
 use Rattle.volatile.specs.Packed.{packed, unpacked, cardOf, madeUpWord}
 use Rattle.checks.specs.Numbers.{stateNumber, runNumber}
-use Rattle.card.specs.Moves.{ranTo}
 
 -- A step's answer, with the halves that are handed back.
 unfoldable pub stepAnswer : List ℕ → ℕ → Volatile → ℕ → Stepped

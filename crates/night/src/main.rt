@@ -63,7 +63,7 @@ fn open_steps(attempts: u8, steps: &mut [u8]) -> usize {
     let Made::Refused(k) = made else {
         return count(made);
     };
-    write_all(STDOUT_FILENO, b"no try, the maker refuses by ");
+    write_all(STDOUT_FILENO, b"no try, the step maker refuses by ");
     print_decimal(STDOUT_FILENO, k as u64);
     write_all(STDOUT_FILENO, b"; bit 96 written all the same: ");
     count(maker::open(false, CODE, 128, steps))
@@ -147,7 +147,7 @@ fn main() {
     visits(ERASE);
     write_all(
         STDOUT_FILENO,
-        b"\nA reader that erases, by the maker's own open:\n",
+        b"\nA reader that erases, by the step maker's own open:\n",
     );
     visits(0);
 }

@@ -7,7 +7,7 @@ use lib.ListN.{take, drop}
 use Rattle.words.specs.declared.Stop.{Stop}
 use Rattle.words.specs.declared.Stop.the-variants.{LineEnd, Comment, Blank, Ink}
 
--- Words are separated by blanks: a space, a tab, or the CR before a line's end.
+-- Words are separated by blanks: a space, a tab, or a CR, as it stands before a line's end.
 unfoldable pub blank : ℕ → Bool
 blank b = eqb b 32 || (eqb b 9 || eqb b 13)
 

@@ -1,4 +1,3 @@
-use mathlib.Core.Path.{sym, _∙_}
 use denote.Ref.{now}
 use lib.ListN.{getD, List·getD-eq-default}
 use lib.Count.{onesIn}

@@ -1,4 +1,3 @@
-use mathlib.Core.Path.{_∙_}
 use denote.Ref.{now}
 use Rattle.volatile.proofs.Packing.{unpacked-packed}
 use Rattle.card.proofs.HandedOn.{clocks}

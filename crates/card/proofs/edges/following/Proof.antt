@@ -1,5 +1,5 @@
 use Rattle.rules.specs.Match.{following}
-use borrow.Author.Tests.{eq-eqb, ne-eqb}
+use borrow.Author.Tests.{ne-eqb}
 use borrow.Author.Needs.{needs}
 use Rattle.card.proofs.edges.following.Statement.{statement}
 use Rattle.card.proofs.edges.following.Tie as tie

@@ -1,5 +1,5 @@
 use native.Mathlib.Omega.{arith}
-use mathlib.Core.Path.{refl, sym, _∙_}
+use mathlib.Core.Path.{refl}
 use denote.Ref.{now}
 use Rattle.rules.specs.Lines.{FUS, high, place, change}
 use Rattle.volatile.specs.Packed.{unpacked}

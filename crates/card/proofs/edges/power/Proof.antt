@@ -5,7 +5,6 @@ use Rattle.rules.specs.Lines.{VCC, high, place, change}
 use Rattle.volatile.specs.Packed.{unpacked}
 use Rattle.card.proofs.Turned.{by-difference}
 use Rattle.card.proofs.ByLine.{line-turned, vcc-falls, vcc-refused, vcc-rises}
-use borrow.Author.Tests.{not-true, not-false}
 use borrow.Author.Needs.{needs}
 use Rattle.card.proofs.edges.power.Statement.{statement}
 use Rattle.card.proofs.edges.power.Tie as tie
