@@ -5,7 +5,8 @@ use mathlib.Core.Path.{_≡_, refl, sym, _∙_}
 use mathlib.Core.Bool.{Bool, true, false, cond, not, _&&_, _||_}
 use mathlib.Core.List.{List}
 use lib.Dec.{eqb}
-use borrow.Author.Tests.{ne-eqb, le-ltb}
+use borrow.Author.Tests.{ne-eqb, le-ltb, eqb-true}
+use Rattle.memory.proofs.Below.{and-left, and-right}
 use Rattle.rules.specs.Halves as Halves
 use Rattle.rules.specs.Halves.{Card}
 use Rattle.rules.specs.Lines.{Line, VCC, RST, CLK, PGM, IO, FUS, high, Edge, Same, Rises, Falls, change, edge}
@@ -57,6 +58,29 @@ module _ (m : List ℕ) (fuses : ℕ) (v : Volatile) (p n : ℕ) where
   unfolding next unpacked
   next-at e t q h = rw (q, h)
 
+-- Two rules over five booleans are one if they agree in every case: one computed test.
+abbrev both : (Bool → Bool) → Bool
+both f = f false && f true
+
+at : (f : Bool → Bool) → both f ≡ true → (a : Bool) → f a ≡ true
+at f e true = and-right (f false) (f true) e
+at f e false = and-left (f false) (f true) e
+
+abbrev Rule : Type 0
+Rule = Bool → Bool → Bool → Bool → Bool → ℕ
+
+abbrev agree : Rule → Rule → Bool
+agree f g = both (λ t. both (λ a. both (λ b. both (λ c. both (λ d. eqb (f t a b c d) (g t a b c d))))))
+
+one-rule : (f g : Rule) → agree f g ≡ true → (t a b c d : Bool) → f t a b c d ≡ g t a b c d
+one-rule f g e t a b c d =
+    eqb-true (f t a b c d) (g t a b c d)
+    (at (λ d. eqb (f t a b c d) (g t a b c d))
+    (at (λ c. both (λ d. eqb (f t a b c d) (g t a b c d)))
+    (at (λ b. both (λ c. both (λ d. eqb (f t a b c d) (g t a b c d))))
+    (at (λ a. both (λ b. both (λ c. both (λ d. eqb (f t a b c d) (g t a b c d)))))
+    (at (λ t. both (λ a. both (λ b. both (λ c. both (λ d. eqb (f t a b c d) (g t a b c d)))))) e t) a) b) c) d)
+
 -- The numbers 2 to 7, with the levels that they look at.
 unfoldable chain : Edge → Bool → Bool → Bool → Bool → ℕ
 unfolding many rises falls changes
@@ -80,85 +104,44 @@ module _ (levels : ℕ) (programming : Bool) where
   unfolding edgeRefusal chain change
   as-chain x t e = rw e
 
+  -- What each line's change is refused by, t being its level.
+  by-rule :
+      (x : Line) (rule : Rule) →
+      agree (λ t a b c d. chain (cond t (Falls x) (Rises x)) a b c d) rule ≡ true →
+      edgeRefusal (change x levels) levels programming ≡ rule (high x levels) vcc programming clk pgm
+  by-rule x rule e =
+      as-chain x (high x levels) refl ∙
+      one-rule (λ t a b c d. chain (cond t (Falls x) (Rises x)) a b c d) rule e (high x levels) vcc programming clk pgm
+
   pub clk-number : edgeRefusal (change CLK levels) levels programming ≡ cond (clk && (vcc && (programming && pgm))) 4 0
   unfolding chain
-  clk-number = as-chain CLK clk refl ∙ go clk vcc programming clk pgm
-    where
-      go : (t a b c d : Bool) → chain (cond t (Falls CLK) (Rises CLK)) a b c d ≡ cond (t && (a && (b && d))) 4 0
-      go true true true c d = refl
-      go true true false c d = refl
-      go true false b c d = refl
-      go false true true c d = refl
-      go false true false c d = refl
-      go false false b c d = refl
-
-  pub pgm-number : edgeRefusal (change PGM levels) levels programming ≡ cond (vcc && (clk && not pgm)) 6 0
-  unfolding chain
-  pgm-number = as-chain PGM pgm refl ∙ go pgm vcc programming clk
-    where
-      go : (t a b c : Bool) → chain (cond t (Falls PGM) (Rises PGM)) a b c t ≡ cond (a && (c && not t)) 6 0
-      go true true true true = refl
-      go true true true false = refl
-      go true true false true = refl
-      go true true false false = refl
-      go true false b c = refl
-      go false true true true = refl
-      go false true true false = refl
-      go false true false true = refl
-      go false true false false = refl
-      go false false b c = refl
+  clk-number = by-rule CLK (λ t a b c d. cond (t && (a && (b && d))) 4 0) refl
 
   pub rst-number :
       edgeRefusal (change RST levels) levels programming ≡ cond (vcc && programming) 3 (cond (vcc && (high RST levels && clk)) 5 0)
   unfolding chain
-  rst-number = as-chain RST (high RST levels) refl ∙ go (high RST levels) vcc programming clk pgm
-    where
-      go : (t a b c d : Bool) → chain (cond t (Falls RST) (Rises RST)) a b c d ≡ cond (a && b) 3 (cond (a && (t && c)) 5 0)
-      go true true true c d = refl
-      go true true false c d = refl
-      go true false b c d = refl
-      go false true true c d = refl
-      go false true false c d = refl
-      go false false b c d = refl
+  rst-number = by-rule RST (λ t a b c d. cond (a && b) 3 (cond (a && (t && c)) 5 0)) refl
 
   pub fus-number : edgeRefusal (change FUS levels) levels programming ≡ cond (vcc && programming) 3 0
   unfolding chain
-  fus-number = as-chain FUS (high FUS levels) refl ∙ go (high FUS levels) vcc programming clk pgm
-    where
-      go : (t a b c d : Bool) → chain (cond t (Falls FUS) (Rises FUS)) a b c d ≡ cond (a && b) 3 0
-      go true true true c d = refl
-      go true true false c d = refl
-      go true false b c d = refl
-      go false true true c d = refl
-      go false true false c d = refl
-      go false false b c d = refl
+  fus-number = by-rule FUS (λ t a b c d. cond (a && b) 3 0) refl
 
   pub io-number : edgeRefusal (change IO levels) levels programming ≡ 0
   unfolding chain
-  io-number = as-chain IO (high IO levels) refl ∙ go (high IO levels) vcc programming clk pgm
-    where
-      go : (t a b c d : Bool) → chain (cond t (Falls IO) (Rises IO)) a b c d ≡ 0
-      go true true true c d = refl
-      go true true false c d = refl
-      go true false b c d = refl
-      go false true true c d = refl
-      go false true false c d = refl
-      go false false b c d = refl
+  io-number = by-rule IO (λ t a b c d. 0) refl
+
+  pub pgm-number : edgeRefusal (change PGM levels) levels programming ≡ cond (vcc && (clk && not pgm)) 6 0
+  unfolding chain
+  pgm-number =
+      as-chain PGM pgm refl ∙
+      one-rule (λ t a b c d. chain (cond t (Falls PGM) (Rises PGM)) a b c t) (λ t a b c d. cond (a && (c && not t)) 6 0) refl pgm vcc programming clk pgm
 
   pub vcc-number : edgeRefusal (change VCC levels) levels programming ≡ cond (not vcc && (clk || pgm)) 7 0
   unfolding chain
-  vcc-number = as-chain VCC vcc refl ∙ go vcc programming clk pgm
-    where
-      go : (t b c d : Bool) → chain (cond t (Falls VCC) (Rises VCC)) t b c d ≡ cond (not t && (c || d)) 7 0
-      go true true c d = refl
-      go true false c d = refl
-      go false b c d = refl
+  vcc-number =
+      as-chain VCC vcc refl ∙
+      one-rule (λ t a b c d. chain (cond t (Falls VCC) (Rises VCC)) t b c d) (λ t a b c d. cond (not t && (c || d)) 7 0) refl vcc vcc programming clk pgm
 
   pub same-number : edgeRefusal Same levels programming ≡ 0
   unfolding chain edgeRefusal
-  same-number = go vcc programming clk pgm
-    where
-      go : (a b c d : Bool) → chain Same a b c d ≡ 0
-      go true true c d = refl
-      go true false c d = refl
-      go false b c d = refl
+  same-number = one-rule (λ t a b c d. chain Same a b c d) (λ t a b c d. 0) refl false vcc programming clk pgm
