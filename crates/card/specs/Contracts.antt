@@ -1,7 +1,7 @@
 -- What each call of the card answers and leaves, for every input.
 use Prim.Native.Nat.{ℕ}
 use mathlib.Core.Path.{_≡_}
-use mathlib.Core.Bool.{cond}
+use mathlib.Core.Bool.{Bool, false, cond}
 use mathlib.Core.List.{List}
 use lib.Dec.{eqb}
 use lib.ListN.{length}
@@ -80,7 +80,11 @@ unfoldable pub flagsOf : Volatile → FlagsAnswer
 unfolding madeUpWord unpacked
 flagsOf v = cond (madeUpWord v) (Barred 9) (Held (unpacked v .sv) (unpacked v .p1) (unpacked v .r1) (unpacked v .e1))
 
--- 01's number for each case of the flags' answer.
+-- 01's number for each case of the flags' answer, and the flags SV, P1, R1 and E1, none where refused.
 unfoldable pub flagsNumber : FlagsAnswer → ℕ
 flagsNumber (Held sv p1 r1 e1) = 0
 flagsNumber (Barred k) = k
+
+unfoldable pub flagsHeld : FlagsAnswer → Bool × (Bool × (Bool × Bool))
+flagsHeld (Held sv p1 r1 e1) = (sv, (p1, (r1, e1)))
+flagsHeld (Barred k) = (false, (false, (false, false)))

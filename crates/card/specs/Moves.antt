@@ -39,8 +39,8 @@ movedTo c = moved (packed (c .volatile)) (c .fuses) (pin c) 0
 unfoldable pub programmedCard : List ℕ → ℕ → Volatile → ℕ → Card
 programmedCard m fuses v n = programmed (operationNow fuses (unpacked v)) n (cardOf m fuses v)
 
--- Addresses from which a move compares nothing and arrives where nothing comes of it: within FZ and IZ, within AZ past its flags, within
--- CPZ, within EC, and from MTZ up to the last.
+-- Addresses from which a move compares nothing and arrives where nothing comes of it: within FZ and IZ, within AZ past its flags, in SCAC
+-- past the end of match and within CPZ, within EC, and from MTZ up to the last.
 abbrev pub Plain : ℕ → Type 0
 Plain a =
     (a < 79) ⊎ (((177 ≤ a) × (a < 1198)) ⊎ (((104 ≤ a) × (a < 175)) ⊎ (((1232 ≤ a) × (a < 1359)) ⊎ ((1360 ≤ a) × (a < 1519)))))

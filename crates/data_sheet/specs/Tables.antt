@@ -188,7 +188,7 @@ unfoldable pub eachWay : Bool → (Bool → Bool → Bool) → Bool
 eachWay true f = f true true
 eachWay false f = f false false && (f false true && f true false)
 
--- The rows hold for every value of their x's, of the fuses that they do not name, and of FUS.
+-- The rows hold for every value of their x's, of the fuses that they do not name, and, at level 2, of FUS.
 unfoldable pub agrees : Bool → List Row → Bool
 unfolding eachValue eachWay both speaks answers
 agrees l1 [] = true

@@ -16,11 +16,11 @@ use Rattle.rules.specs.File.{fuseSection, stepCount, stepSection, sessionRefusa
 use Rattle.file.specs.declared.CardFile.{CardFile}
 use Rattle.file.specs.declared.Session.{Session}
 use Rattle.file.specs.declared.Session.the-variants.{Parts, Refused as Barred}
-use Rattle.file.specs.Opening.{cardNumber, sessionNumber, sessionAnswer, inMemory, handedSteps, CardOpened, SessionOpened}
+use Rattle.file.specs.Opening.{cardNumber, sessionNumber, sessionSteps, sessionAnswer, inMemory, handedSteps, CardOpened, SessionOpened}
 use Rattle.exports.specs.declared.acts.ZhavMade.{ZhavMade}
 use Rattle.exports.specs.declared.openers.ZhavCard.{ZhavCard}
 use Rattle.exports.specs.declared.openers.ZhavSession.{ZhavSession}
-use Rattle.exports.specs.Rendered.{steppedOf, madeOf, cardFileOf, sessionOf}
+use Rattle.exports.specs.Rendered.{steppedOf, madeOf, cardFileOf, stepsFrom, sessionOf}
 use Rattle.exports.specs.Told.{ActTold, CardTold, SessionTold}
 
 pub pinned : {s t : Stepped} {b : ℕ} → s ≡ t → s .answer ≡ Pin b → record { half = s .volatile; fuses = s .fuses; answer = b; refusal = 0 } ≡ steppedOf t
@@ -53,7 +53,7 @@ card-told {file = file} {memory = memory} opened told =
 
 -- The steps of an opened session are the file's step section, none where refused.
 section-of : (file : List ℕ) (room : ℕ) → take (sessionOf (sessionAnswer file room) .steps) (drop (sessionOf (sessionAnswer file room) .first) file) ≡ handedSteps file room
-unfolding sessionOf sessionAnswer handedSteps stepSection
+unfolding sessionOf stepsFrom sessionSteps sessionAnswer handedSteps stepSection
 section-of file room = go (eqb (sessionRefusal file room) 0)
   where
     opened : Bool → ZhavSession

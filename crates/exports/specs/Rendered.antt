@@ -7,13 +7,13 @@ use Rattle.volatile.specs.Packed.{one}
 use Rattle.card.specs.declared.Stepped.{Stepped}
 use Rattle.card.specs.declared.Ran.{Ran}
 use Rattle.card.specs.declared.FlagsAnswer.{FlagsAnswer}
-use Rattle.card.specs.declared.FlagsAnswer.the-variants as flags
+use Rattle.card.specs.Contracts.{flagsNumber, flagsHeld}
 use Rattle.maker.specs.declared.Made.{Made}
-use Rattle.maker.specs.declared.Made.the-variants as act
+use Rattle.maker.specs.Act.{numberOf as actNumber, countOf}
 use Rattle.file.specs.declared.CardFile.{CardFile}
-use Rattle.file.specs.declared.CardFile.the-variants as card
 use Rattle.file.specs.declared.Session.{Session}
 use Rattle.file.specs.declared.Session.the-variants as session
+use Rattle.file.specs.Opening.{cardNumber, cardFuses, sessionNumber, sessionFuses, sessionSteps}
 use Rattle.exports.specs.declared.steps.ZhavStepped.{ZhavStepped}
 use Rattle.exports.specs.declared.steps.ZhavTold.{ZhavTold}
 use Rattle.exports.specs.declared.steps.ZhavRan.{ZhavRan}
@@ -38,8 +38,10 @@ ranOf r = record { half = r .volatile; done = r .done; fuses = r .fuses; refusal
 
 -- The flags, 1 for one that holds, and none where refused.
 unfoldable pub flagBytes : FlagsAnswer → ZhavFlags
-flagBytes (flags.Held sv p1 r1 e1) = record { sv = one sv; p1 = one p1; r1 = one r1; e1 = one e1; refusal = 0 }
-flagBytes (flags.Refused k) = record { sv = 0; p1 = 0; r1 = 0; e1 = 0; refusal = k }
+unfolding flagsHeld flagsNumber
+flagBytes a =
+    let held = flagsHeld a in
+    record { sv = one (held .0); p1 = one (held .1 .0); r1 = one (held .1 .1 .0); e1 = one (held .1 .1 .1); refusal = flagsNumber a }
 
 -- A level as a byte: 0 low, anything else high.
 abbrev pub isHigh : ℕ → Bool
@@ -47,15 +49,19 @@ isHigh x = not (eqb x 0)
 
 -- An act: the count, 0 where refused, and the refusal, 0 if none.
 unfoldable pub madeOf : Made → ZhavMade
-madeOf (act.Wrote n) = record { count = n; refusal = 0 }
-madeOf (act.Refused k) = record { count = 0; refusal = k }
+unfolding countOf actNumber
+madeOf a = record { count = countOf a; refusal = actNumber a }
 
 -- A card file: the fuse byte.
 unfoldable pub cardFileOf : CardFile → ZhavCard
-cardFileOf (card.Card fuses) = record { fuses = fuses; refusal = 0 }
-cardFileOf (card.Refused k) = record { fuses = 0; refusal = k }
+unfolding cardFuses cardNumber
+cardFileOf c = record { fuses = cardFuses c; refusal = cardNumber c }
 
 -- A session: the step section as the place where it starts, after the counts, the memory and the fuses, and its count.
+unfoldable pub stepsFrom : Session → ℕ
+stepsFrom (session.Parts fuses steps) = 181
+stepsFrom (session.Refused k) = 0
+
 unfoldable pub sessionOf : Session → ZhavSession
-sessionOf (session.Parts fuses steps) = record { first = 181; steps = steps; fuses = fuses; refusal = 0 }
-sessionOf (session.Refused k) = record { first = 0; steps = 0; fuses = 0; refusal = k }
+unfolding stepsFrom sessionSteps sessionFuses sessionNumber
+sessionOf s = record { first = stepsFrom s; steps = sessionSteps s; fuses = sessionFuses s; refusal = sessionNumber s }

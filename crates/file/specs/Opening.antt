@@ -21,6 +21,19 @@ unfoldable pub sessionNumber : Session → ℕ
 sessionNumber (session.Parts fuses steps) = 0
 sessionNumber (session.Refused k) = k
 
+-- And its values, 0 where refused.
+unfoldable pub cardFuses : CardFile → ℕ
+cardFuses (card.Card fuses) = fuses
+cardFuses (card.Refused k) = 0
+
+unfoldable pub sessionFuses : Session → ℕ
+sessionFuses (session.Parts fuses steps) = fuses
+sessionFuses (session.Refused k) = 0
+
+unfoldable pub sessionSteps : Session → ℕ
+sessionSteps (session.Parts fuses steps) = steps
+sessionSteps (session.Refused k) = 0
+
 -- The answer to a file and a memory buffer of this length: the fuse section and the count of the steps, or the refusal.
 unfoldable pub cardAnswer : List ℕ → ℕ → CardFile
 unfolding cardRefusal fuseSection

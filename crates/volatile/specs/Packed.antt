@@ -59,7 +59,7 @@ unfoldable pub madeUpWord : Volatile → Bool
 unfolding unpacked
 madeUpWord v = ltb 127 (v .flags) || madeUp (unpacked v)
 
--- Levels and flags of a powered half: latch and programming with CLK high alone, and programming where CLK and PGM are high. The digits
+-- Levels and flags of a powered half: latch and programming only with CLK high, and programming where CLK and PGM are high. The digits
 -- of 0xa2a7 say which of the sixteen ways that CLK, PGM, programming and the latch stand together are such.
 unfoldable pub wired : ℕ → ℕ → Bool
 wired lines flags = eqb (bitAnd lines 1) 1 && eqb (0xa2a7 / 2 ^ (lines / 4 % 4 + 4 * (flags / 8 % 4)) % 2) 1

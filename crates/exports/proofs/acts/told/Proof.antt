@@ -1,3 +1,4 @@
+use Rattle.maker.specs.Act.{numberOf, countOf}
 use Rattle.exports.specs.Rendered.{madeOf}
 use borrow.Author.Needs.{needs}
 use Rattle.exports.proofs.acts.told.Statement.{statement}
@@ -10,11 +11,11 @@ enum-known-made-2 : tie.Need-enum-known-made-2
 enum-known-made-2 c = search needs
 
 returns : tie.Need-returns
-unfolding madeOf
+unfolding madeOf countOf numberOf
 returns c = rw (c .before .made .given .1)
 
 returns-2 : tie.Need-returns-2
-unfolding madeOf
+unfolding madeOf countOf numberOf
 returns-2 c = rw (c .before .made2 .given .1)
 
 pub told-spec : {M : Type 1} → statement M

@@ -1,4 +1,5 @@
 use Rattle.exports.proofs.Shown.{card-told}
+use Rattle.file.specs.Opening.{cardFuses, cardNumber}
 use Rattle.exports.specs.Rendered.{cardFileOf}
 use borrow.Author.Needs.{needs}
 use Rattle.exports.proofs.openers.zhav_open_card.Statement.{statement}
@@ -17,14 +18,14 @@ same-length : tie.Need-same-length
 same-length c = search needs
 
 returns : tie.Need-returns
-unfolding cardFileOf
+unfolding cardFileOf cardFuses cardNumber
 returns c = card-told (c .before .before .before .before .before .open-card .ensures) (rw (c .before .opened .given .1))
 
 same-length-2 : tie.Need-same-length-2
 same-length-2 c = search needs
 
 returns-2 : tie.Need-returns-2
-unfolding cardFileOf
+unfolding cardFileOf cardFuses cardNumber
 returns-2 c = card-told (c .before .before .before .before .before .open-card .ensures) (rw (c .before .opened2 .given .1))
 
 pub zhav-open-card-spec : {M : Type 1} → statement M

@@ -1,5 +1,6 @@
 use Rattle.exports.proofs.Shown.{session-told}
-use Rattle.exports.specs.Rendered.{sessionOf}
+use Rattle.file.specs.Opening.{sessionNumber, sessionFuses, sessionSteps}
+use Rattle.exports.specs.Rendered.{stepsFrom, sessionOf}
 use borrow.Author.Needs.{needs}
 use Rattle.exports.proofs.openers.zhav_open_session.Statement.{statement}
 use Rattle.exports.proofs.openers.zhav_open_session.Tie as tie
@@ -17,14 +18,14 @@ same-length : tie.Need-same-length
 same-length c = search needs
 
 returns : tie.Need-returns
-unfolding sessionOf
+unfolding sessionOf stepsFrom sessionSteps sessionFuses sessionNumber
 returns c = session-told (c .before .before .before .before .before .open-session .ensures) (rw (c .before .opened .given .1))
 
 same-length-2 : tie.Need-same-length-2
 same-length-2 c = search needs
 
 returns-2 : tie.Need-returns-2
-unfolding sessionOf
+unfolding sessionOf stepsFrom sessionSteps sessionFuses sessionNumber
 returns-2 c = session-told (c .before .before .before .before .before .open-session .ensures) (rw (c .before .opened2 .given .1))
 
 pub zhav-open-session-spec : {M : Type 1} → statement M
