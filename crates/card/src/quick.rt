@@ -1,4 +1,4 @@
-// The steps of walks and read-outs, which a single step takes without the loop of a run.
+// What most steps come to, which a single step tells without the loop of a run.
 use memory::is_set;
 use volatile::Volatile;
 ghost use mathlib.Core.Path.{_≡_};
@@ -7,7 +7,7 @@ ghost use lib.Bits.{bitXor};
 ghost use Rattle.memory.specs.Image.{digit};
 ghost use Rattle.card.specs.Moves.{Plain, QuickTo};
 
-// The half that such a step comes to. Any other step is left to the run.
+// The half that the step comes to. Any other step is left to the run.
 pub(crate) enum Quick {
     To(Volatile),
     Other,
@@ -72,6 +72,7 @@ pub(crate) fn idle(v: Volatile, n: u32) -> Quick
     Quick::Other
 }
 
+// I/O and CLK, PGM where it is not refused, and FUS and RST with CLK low.
 pub(crate) fn step(v: Volatile, n: u32) -> Quick
     ensures { λ r. ⌜ QuickTo v n r ⌝ }
 {
