@@ -1,10 +1,10 @@
 -- What a case of the table is made of, and when it holds. The cases are in `specs.Cases`.
-use Prim.Native.Nat.{ℕ, _-_, _/_, _%_}
+use Prim.Native.Nat.{ℕ, _+_, _-_, _/_, _%_}
 use mathlib.Core.Bool.{Bool, true, false, _&&_, Bool·beq}
 use mathlib.Core.List.{List, [], _∷_, _++_}
 use lib.Count.{onesIn}
 use lib.Dec.{eqb}
-use lib.ListN.{length, drop, replicate, set}
+use lib.ListN.{length, take, drop, replicate, set}
 use Rattle.memory.specs.Image.{digit, bytes}
 use Rattle.rules.specs.Halves.{Volatile, Card, fresh}
 use Rattle.rules.specs.declared.Answer.{Answer}
@@ -13,6 +13,16 @@ use Rattle.rules.specs.Card.{checkedStep, checkedAnswer, checkedRun, num
 use Rattle.rules.specs.File.{memorySection, fuseSection, stepSection, cardRefusal, sessionRefusal}
 use Rattle.rules.specs.Maker.{idle, walk, showBits, program, blow, actRefusal}
 use Rattle.rules.specs.Computing.{the-card}
+
+-- The pin's answers: a stored 0, a stored 1, and the line released.
+abbrev pub zero : ℕ
+zero = 0
+
+abbrev pub one : ℕ
+one = 1
+
+abbrev pub released : ℕ
+released = 1
 
 -- What a volatile half holds besides lines and address: a sum of these.
 abbrev pub none : ℕ
@@ -122,6 +132,8 @@ pub data Case : Type 0 where
   Unmade : ℕ → List ℕ → ℕ → Case
   -- Running this session prints "steps done and given, refusal (0 if none), the answers without spaces, ones left in bits 96 to 103".
   Prints : List ℕ → ℕ → ℕ → ℕ → List ℕ → ℕ → Case
+  -- A claim over many cards at once, computed.
+  Claims : Bool → Case
 
 unfoldable pub sameBytes : List ℕ → List ℕ → Bool
 sameBytes [] [] = true
@@ -129,11 +141,8 @@ sameBytes [] (y ∷ ys) = false
 sameBytes (x ∷ xs) [] = false
 sameBytes (x ∷ xs) (y ∷ ys) = eqb x y && sameBytes xs ys
 
-unfoldable pub sameCard : Card → Card → Bool
-unfolding sameBytes
-sameCard c d =
-    let v = c .volatile in
-    let w = d .volatile in
+unfoldable pub sameHalf : Volatile → Volatile → Bool
+sameHalf v w =
     eqb (v .lines) (w .lines) &&
     (eqb (v .address) (w .address) &&
     (Bool·beq (v .sv) (w .sv) &&
@@ -141,9 +150,12 @@ sameCard c d =
     (Bool·beq (v .r1) (w .r1) &&
     (Bool·beq (v .e1) (w .e1) &&
     (Bool·beq (v .matched) (w .matched) &&
-    (Bool·beq (v .latch) (w .latch) &&
-    (Bool·beq (v .programming) (w .programming) &&
-    (eqb (c .fuses) (d .fuses) && sameBytes (c .memory) (d .memory))))))))))
+    (Bool·beq (v .latch) (w .latch) && Bool·beq (v .programming) (w .programming))))))))
+
+unfoldable pub sameCard : Card → Card → Bool
+unfolding sameHalf sameBytes
+sameCard c d =
+    sameHalf (c .volatile) (d .volatile) && (eqb (c .fuses) (d .fuses) && sameBytes (c .memory) (d .memory))
 
 -- The last answers of a run are these.
 unfoldable pub endsIn : List ℕ → List ℕ → Bool
@@ -197,6 +209,7 @@ holds (Prints file done given refused answers left) =
     (eqb (length (r .answers)) done &&
     (eqb (length (stepSection file)) given &&
     (eqb (r .refused) refused && (sameBytes (r .answers) answers && eqb (triesLeft (r .card .memory)) left))))
+holds (Claims claim) = claim
 
 unfoldable pub every : List Case → Bool
 unfolding holds
@@ -229,7 +242,7 @@ compares bits fus fuses a holding b then =
 -- A blow, which ends at 0, makes these fuses.
 unfoldable pub blows : Bool → ℕ → ℕ → ℕ → ℕ → Case
 unfolding idleAt blow sample
-blows fus fuses a holding after = Runs (idleAt fus fuses sample a holding) (blow fus) (idleAt fus after sample 0 holding) (0 ∷ [])
+blows fus fuses a holding after = Runs (idleAt fus fuses sample a holding) (blow fus) (idleAt fus after sample 0 holding) (zero ∷ [])
 
 -- One step, from these levels to those.
 unfoldable pub oneStep : ℕ → ℕ → ℕ → ℕ → ℕ → ℕ → ℕ → Case
@@ -249,3 +262,24 @@ madeUpAt levels a holding = Checks (cardAt levels 7 sample a holding) 9
 unfoldable pub soundAt : ℕ → ℕ → ℕ → Case
 unfolding cardAt sample
 soundAt levels a holding = Checks (cardAt levels 7 sample a holding) 0
+
+-- VCC falls in programming: memory and fuses stay, and nothing is left of the volatile half but the lines.
+unfoldable pub cuts : ℕ → ℕ → List ℕ → ℕ → ℕ → Case
+unfolding cardAt
+cuts levels fuses m a holding =
+    Step (cardAt levels fuses m a (holding + Programming)) (levels - 1) (cardAt (levels - 1) fuses m 0 none) (Pin released)
+
+-- A step of a card without power that 10, 14 or 9 refuses, alone and in a run, and that 1 or 2 would refuse or let pass.
+unfoldable pub unready : ℕ → ℕ → List ℕ → ℕ → ℕ → ℕ → Case
+unfolding cardAt
+unready levels fuses m holding n k =
+    Step (cardAt levels fuses m 0 holding) n (cardAt levels fuses m 0 holding) (Refused k)
+
+-- A file's first bytes, so many: a count, the sample image, a count, a fuse byte, a count, and zeros.
+unfoldable pub laidOut : ℕ → ℕ → ℕ → ℕ → ℕ → List ℕ
+unfolding sample
+laidOut first second fuses third length =
+    take length
+    (first % 256 ∷
+    first / 256 ∷
+    (sample ++ (second % 256 ∷ second / 256 ∷ fuses ∷ third % 256 ∷ third / 256 ∷ replicate 300 0)))

@@ -12,4 +12,15 @@ pub mod File
 pub mod Computing
 pub mod Demands
 pub mod CaseForms
+pub mod CaseRanges
+pub mod ClaimForms
+pub mod ClaimsSteps
+pub mod ClaimsRights
+pub mod ClaimsMatch
+pub mod ClaimsRefusals
+pub mod CasesSteps
+pub mod CasesRights
+pub mod CasesMatch
+pub mod CasesRefusals
+pub mod CasesFiles
 pub mod Cases
