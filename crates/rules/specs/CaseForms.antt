@@ -216,6 +216,10 @@ unfolding holds
 every [] = true
 every (k ∷ ks) = holds k && every ks
 
+unfoldable pub joined : List (List Case) → List Case
+joined [] = []
+joined (ks ∷ rest) = ks ++ joined rest
+
 -- Shapes of case. A write, and an erase, of an idle card make this image.
 unfoldable pub writes : Bool → ℕ → List ℕ → ℕ → ℕ → List ℕ → Case
 unfolding idleAt program

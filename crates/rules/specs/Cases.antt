@@ -11,9 +11,9 @@ use lib.ListN.{replicate, set}
 use Rattle.rules.specs.Maker.{walk, show, program}
 use Rattle.rules.specs.CaseForms.{none, SV, P1, R1, E1, Match, L1, L2, code, zero, one, released}
 use Rattle.rules.specs.CaseForms.{cardAt, idleAt, ones, zeros, image, sample, cardFile, session}
-use Rattle.rules.specs.CaseForms.{Case, Runs, Refuses, OpensCard, OpensSession, Prints, every, writes, erases, walks, blows}
+use Rattle.rules.specs.CaseForms.{Case, Runs, Refuses, OpensCard, OpensSession, Prints, joined, every, writes, erases, walks, blows}
 use Rattle.rules.specs.CasesSteps.{lineCases, cutCases, arrivalCases, pinCases}
-use Rattle.rules.specs.CasesRights.{zoneCases, eraseCases, programCases, blockCases, fuseCases}
+use Rattle.rules.specs.CasesRights.{zoneCases, eraseCases, imageCases, programCases, blockCases, fuseCases}
 use Rattle.rules.specs.CasesMatch.{codeCases, keyCases}
 use Rattle.rules.specs.CasesRefusals.{stepRefusals, orderCases, stateCases, bufferCases}
 use Rattle.rules.specs.CasesFiles.{fileCases, triesCases, actCases, makerCases}
@@ -71,14 +71,31 @@ edges =
     []
 
 unfoldable pub table : List Case
-unfolding caseS edges lineCases cutCases arrivalCases pinCases zoneCases eraseCases programCases blockCases fuseCases codeCases keyCases stepRefusals orderCases stateCases bufferCases fileCases triesCases actCases makerCases
+unfolding joined caseS edges lineCases cutCases arrivalCases pinCases zoneCases eraseCases imageCases programCases blockCases fuseCases codeCases keyCases stepRefusals orderCases stateCases bufferCases fileCases triesCases actCases makerCases
 table =
-    (caseS ∷ edges) ++
-    (lineCases ++ (cutCases ++ (arrivalCases ++ (pinCases ++
-    (zoneCases ++ (eraseCases ++ (programCases ++ (blockCases ++ (fuseCases ++
-    (codeCases ++ (keyCases ++
-    (stepRefusals ++ (orderCases ++ (stateCases ++ (bufferCases ++
-    (fileCases ++ (triesCases ++ (actCases ++ makerCases))))))))))))))))))
+    joined
+    ((caseS ∷ edges) ∷
+    lineCases ∷
+    cutCases ∷
+    arrivalCases ∷
+    pinCases ∷
+    zoneCases ∷
+    eraseCases ∷
+    imageCases ∷
+    programCases ∷
+    blockCases ∷
+    fuseCases ∷
+    codeCases ∷
+    keyCases ∷
+    stepRefusals ∷
+    orderCases ∷
+    stateCases ∷
+    bufferCases ∷
+    fileCases ∷
+    triesCases ∷
+    actCases ∷
+    makerCases ∷
+    [])
 
 -- Every case of the table holds.
 abbrev pub Table-holds : Type 0

@@ -1,10 +1,11 @@
 -- 01, "Rights": the table of rights, block and fuses.
 use Prim.Native.Nat.{_+_, _-_}
-use mathlib.Core.Bool.{true, false, _&&_}
+use mathlib.Core.Bool.{true, false, not, _&&_}
 use mathlib.Core.List.{List, [], _∷_}
 use lib.ListN.{set}
 use Rattle.rules.specs.CaseForms.{none, SV, P1, R1, E1, L1, L2}
-use Rattle.rules.specs.CaseForms.{ones, zeros, image, sample, Case, Claims, writes, erases, blows}
+use Rattle.memory.specs.Image.{bit, written, erasedWord, filled}
+use Rattle.rules.specs.CaseForms.{ones, zeros, image, sample, sameBytes, Case, Claims, writes, erases, blows}
 use Rattle.rules.specs.CaseRanges.{eachIn, eachOf}
 use Rattle.rules.specs.ClaimsRights.{MF, Always, Never, With, SV-or-R1, ZoneRow, zoneRow, accessed, needsRstLow, FuseRow, fuseRow, blown, empty}
 use Rattle.rules.specs.ClaimForms.{leaves, changesNothing, everything, bitWritten, applicationErased, blockWritten, blockErased}
@@ -43,6 +44,17 @@ eraseCases =
     -- At level 1 the word, also with EC_EN blown.
     erases L1 5 zeros 1233 SV (image ((154, 0) ∷ (2, 255) ∷ (18, 0) ∷ [])) ∷
     erases L1 5 zeros 1359 (SV + E1) (image ((168, 0) ∷ (2, 255) ∷ (4, 0) ∷ [])) ∷
+    []
+
+-- The image on its own: past its end a bit is 0, nothing is stored, and a part that does not fit is not filled.
+unfoldable pub imageCases : List Case
+unfolding bit written erasedWord filled sameBytes
+imageCases =
+    Claims (not (bit (255 ∷ []) 8) && (bit (0 ∷ 1 ∷ []) 15 && (bit (0 ∷ 128 ∷ []) 8 && not (bit (255 ∷ 127 ∷ []) 8)))) ∷
+    Claims (sameBytes (written (255 ∷ []) 8) (255 ∷ []) && sameBytes (erasedWord (0 ∷ 0 ∷ 0 ∷ []) 16) (0 ∷ 0 ∷ 255 ∷ [])) ∷
+    Claims (sameBytes (filled 1 2 9 (1 ∷ 2 ∷ 3 ∷ 4 ∷ [])) (1 ∷ 9 ∷ 9 ∷ 4 ∷ [])) ∷
+    Claims (sameBytes (filled 1 2 9 (1 ∷ 2 ∷ 3 ∷ [])) (1 ∷ 9 ∷ 9 ∷ [])) ∷
+    Claims (sameBytes (filled 1 2 9 (1 ∷ 2 ∷ [])) (1 ∷ 2 ∷ [])) ∷
     []
 
 -- "A write sets one bit to 0. An erase sets the 16-bit word to 1.": the address stays.
