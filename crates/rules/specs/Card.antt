@@ -11,7 +11,7 @@ use Rattle.rules.specs.Halves.{Volatile, Card}
 use Rattle.rules.specs.Steps.{next, pin}
 use Rattle.rules.specs.Refusals.{refusal, madeUp, stateRefusal, runRefusal}
 
--- The number of an answer, 0 where it is none, and what the pin says in it.
+-- The refusal of an answer, 0 where it is none, and what the pin says in it.
 unfoldable pub numberOf : Answer → ℕ
 numberOf (Pin b) = 0
 numberOf (Refused k) = k
@@ -39,7 +39,7 @@ checkedAnswer c n =
     let r = stateRefusal (c .memory) (c .fuses) (c .volatile) in
     cond (eqb r 0) (answered c n) (Refused r)
 
--- What a run comes to: the card, an answer for each step that was done, and the number of the refusal, 0 if none.
+-- The result of a run: the card, an answer for each step that was done, and the refusal, 0 if none.
 pub record Ran : Type 0 where
   pub card : Card
   pub answers : List ℕ

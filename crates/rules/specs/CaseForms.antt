@@ -115,20 +115,20 @@ session m fuses steps = cardFile m fuses ++ (length steps % 256 ∷ length steps
 pub data Case : Type 0 where
   -- Of this card these steps, all accepted, make that card, and these are the last of their answers.
   Runs : Card → List ℕ → Card → List ℕ → Case
-  -- Of this card these steps, with room for so many answers, are refused by this number before anything is done.
+  -- Of this card these steps, with room for so many answers, get this refusal before anything is done.
   Refuses : Card → List ℕ → ℕ → ℕ → Case
   -- At each of these addresses the pin of a card so held says this.
   Shows : Bool → ℕ → List ℕ → ℕ → List (ℕ × ℕ) → Case
   -- Of this card this step makes that card and gets this answer, alone and in a run.
   Step : Card → ℕ → Card → Answer → Case
-  -- The state check gives this number, 0 or 9, in an empty run, in a step and to the call that reads flags.
+  -- The state check gives this refusal, 0 or 9, in an empty run, in a step and to the call that reads flags.
   Checks : Card → ℕ → Case
-  -- Opening this card file, or this session, into a buffer of this length gets this number, 0 if it opens.
+  -- Opening this card file, or this session, into a buffer of this length gets this refusal, 0 if it opens.
   OpensCard : List ℕ → ℕ → ℕ → Case
   OpensSession : List ℕ → ℕ → ℕ → Case
   -- An act with this refusal of its own and these steps takes this much room, and less gets 22.
   Takes : ℕ → List ℕ → ℕ → Case
-  -- Without any room it gets this number.
+  -- Without any room it gets this refusal.
   Unmade : ℕ → List ℕ → ℕ → Case
   -- Running this session prints "steps done and given, refusal (0 if none), the answers without spaces, ones left in bits 96 to 103".
   Prints : List ℕ → ℕ → ℕ → ℕ → List ℕ → ℕ → Case

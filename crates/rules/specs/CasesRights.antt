@@ -48,9 +48,9 @@ eraseCases =
 
 -- The image on its own: past its end a bit is 0, nothing is stored, and a part that does not fit is not filled.
 unfoldable pub imageCases : List Case
-unfolding bit written erasedWord filled sameBytes
+unfolding bit written erasedWord filled sameBytes eachIn
 imageCases =
-    Claims (not (bit (255 ∷ []) 8) && (bit (0 ∷ 1 ∷ []) 15 && (bit (0 ∷ 128 ∷ []) 8 && not (bit (255 ∷ 127 ∷ []) 8)))) ∷
+    Claims (eachIn 8 15 (λ a. not (bit (255 ∷ []) a)) && (bit (0 ∷ 1 ∷ []) 15 && (bit (0 ∷ 128 ∷ []) 8 && not (bit (255 ∷ 127 ∷ []) 8)))) ∷
     Claims (sameBytes (written (255 ∷ []) 8) (255 ∷ []) && sameBytes (erasedWord (0 ∷ 0 ∷ 0 ∷ []) 16) (0 ∷ 0 ∷ 255 ∷ [])) ∷
     Claims (sameBytes (filled 1 2 9 (1 ∷ 2 ∷ 3 ∷ 4 ∷ [])) (1 ∷ 9 ∷ 9 ∷ 4 ∷ [])) ∷
     Claims (sameBytes (filled 1 2 9 (1 ∷ 2 ∷ 3 ∷ [])) (1 ∷ 9 ∷ 9 ∷ [])) ∷

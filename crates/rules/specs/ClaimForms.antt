@@ -39,7 +39,7 @@ everything a =
     SV + P1 + R1 +
     (cond (leb 1232 a) E1 none + cond (leb 81 a && leb a 103 || leb 1201 a && leb a 1359) Match none)
 
--- CLK falls to these levels, and this comes of the card.
+-- CLK falls to these levels, and the card is then this one.
 unfoldable pub falls : ℕ → ℕ → List ℕ → ℕ → ℕ → Card → Bool
 unfolding the-card cardAt sameCard
 falls levels fuses m a holding after = sameCard (clkFalls levels (cardAt (levels + CLK) fuses m a holding)) after

@@ -46,7 +46,7 @@ unfoldable pub notCompared : ℕ → Bool
 unfolding the-card
 notCompared a = compared true true true false a true && not (compared false false true true a false)
 
--- A write at a on a 1, then on a 0, and without match, at these levels: SV comes of the first alone.
+-- A write at a on a 1, then on a 0, and without match, at these levels: the first alone sets SV.
 unfoldable pub opensAt : ℕ → ℕ → Bool
 unfolding falls cardAt ones bitWritten leaves
 opensAt levels a =

@@ -27,7 +27,7 @@ Refused-step-keeps-all = (c : Card) (n : ℕ) → (numberOf (checkedAnswer c n) 
 abbrev pub done : Ran → ℕ
 done r = length (r .answers)
 
--- What a run of ns from c comes to, k being the number that it gets before any step. The answers are all that it writes into the buffer.
+-- The result of a run of ns from c, k being the refusal that it gets before any step. The answers are all that it writes into the buffer.
 pub record Stops (c : Card) (ns : List ℕ) (k : ℕ) (r : Ran) : Type 0 where
   pub before : run c (take (done r) ns) ≡ record { card = r .card; answers = r .answers; refused = 0 }
   pub number : (r .refused ≡ 0 → ⊥) → r .refused ≡ cond (eqb k 0) (refusal (r .card .volatile) (getD ns (done r) 0)) k

@@ -81,7 +81,7 @@ unfolding reset walk show program zerosBefore
 open-card fus code attempts =
     reset fus ++ (walk fus 80 ++ (show fus 16 code ++ (walk fus (zerosBefore 8 attempts) ++ (program fus false ++ program fus true))))
 
--- "Refused in order: 21 a walk over 1519; 23 no one in the byte; 22 buffer too small.": the number by which an act is refused, 0 if none,
+-- "Refused in order: 21 a walk over 1519; 23 no one in the byte; 22 buffer too small.": the refusal of an act, 0 if none,
 -- where `refused` is its own refusal, by 21 or 23.
 unfoldable pub actRefusal : ℕ → List ℕ → ℕ → ℕ
 actRefusal refused steps room = cond (eqb refused 0) (cond (ltb room (length steps)) 22 0) refused

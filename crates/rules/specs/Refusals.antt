@@ -82,7 +82,7 @@ stateRefusal m fuses v = before-a-step m fuses (madeUp v)
 abbrev pub longest : ℕ
 longest = 4096
 
--- 18 and 19, after a number k that comes before them: 10, 14, 9, or 0 for none.
+-- 18 and 19, after a refusal k that comes before them: 10, 14, 9, or 0 for none.
 unfoldable pub before-a-run : ℕ → ℕ → ℕ → ℕ
 before-a-run k steps room = cond (not (eqb k 0)) k (cond (ltb longest steps) 18 (cond (ltb room steps) 19 0))
 

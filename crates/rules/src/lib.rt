@@ -39,7 +39,7 @@ pub enum Operation {
     BlowISS,
 }
 
-// What a step gets: the pin's answer, or the number of a refusal.
+// What a step gets: the pin's answer, or a refusal.
 pub enum Answer {
     Pin(u8),
     Refused(u8),
