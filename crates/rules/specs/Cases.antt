@@ -70,14 +70,14 @@ edges =
     erases L2 7 zeros 112 none zeros ∷
     []
 
+-- The long runs stand last: a wrong version is mostly refused before them.
 unfoldable pub table : List Case
 unfolding joined caseS edges lineCases cutCases arrivalCases pinCases zoneCases eraseCases imageCases programCases blockCases fuseCases codeCases keyCases stepRefusals orderCases stateCases bufferCases fileCases triesCases actCases makerCases
 table =
     joined
-    ((caseS ∷ edges) ∷
+    ((caseS ∷ []) ∷
     lineCases ∷
     cutCases ∷
-    arrivalCases ∷
     pinCases ∷
     zoneCases ∷
     eraseCases ∷
@@ -85,8 +85,6 @@ table =
     programCases ∷
     blockCases ∷
     fuseCases ∷
-    codeCases ∷
-    keyCases ∷
     stepRefusals ∷
     orderCases ∷
     stateCases ∷
@@ -95,6 +93,10 @@ table =
     triesCases ∷
     actCases ∷
     makerCases ∷
+    codeCases ∷
+    keyCases ∷
+    arrivalCases ∷
+    edges ∷
     [])
 
 -- Every case of the table holds.
