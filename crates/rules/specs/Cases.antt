@@ -15,7 +15,7 @@ use Rattle.rules.specs.CaseForms.{Case, Runs, Refuses, OpensCard, OpensS
 use Rattle.rules.specs.CasesSteps.{lineCases, cutCases, arrivalCases, pinCases}
 use Rattle.rules.specs.CasesRights.{zoneCases, eraseCases, imageCases, programCases, blockCases, fuseCases}
 use Rattle.rules.specs.CasesMatch.{codeCases, keyCases}
-use Rattle.rules.specs.CasesRefusals.{stepRefusals, orderCases, stateCases, bufferCases}
+use Rattle.rules.specs.CasesRefusals.{stepRefusals, orderCases, stateCases, answerCases, bufferCases}
 use Rattle.rules.specs.CasesFiles.{fileCases, triesCases, actCases, makerCases}
 
 -- "Case S: memory byte 0 is 127, all others 255, fuses 7, steps 16 48 49 53 49 51 49 55".
@@ -72,7 +72,7 @@ edges =
 
 -- The long runs stand last: a wrong version is mostly refused before them.
 unfoldable pub table : List Case
-unfolding joined caseS edges lineCases cutCases arrivalCases pinCases zoneCases eraseCases imageCases programCases blockCases fuseCases codeCases keyCases stepRefusals orderCases stateCases bufferCases fileCases triesCases actCases makerCases
+unfolding joined caseS edges lineCases cutCases arrivalCases pinCases zoneCases eraseCases imageCases programCases blockCases fuseCases codeCases keyCases stepRefusals orderCases stateCases answerCases bufferCases fileCases triesCases actCases makerCases
 table =
     joined
     ((caseS ∷ []) ∷
@@ -88,6 +88,7 @@ table =
     stepRefusals ∷
     orderCases ∷
     stateCases ∷
+    answerCases ∷
     bufferCases ∷
     fileCases ∷
     triesCases ∷

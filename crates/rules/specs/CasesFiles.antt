@@ -76,6 +76,7 @@ unfoldable pub triesCases : List Case
 unfolding triesLeft halfOnes session sample eachIn
 triesCases =
     Claims (eachIn 0 255 (λ b. eqb (triesLeft (set sample 12 b)) (getD halfOnes (b / 16) 0 + getD halfOnes (b % 16) 0))) ∷
+    Claims (eqb (triesLeft []) 0) ∷
     Prints (session (set sample 12 0x1f) 7 []) 0 0 0 [] 5 ∷
     []
 

@@ -2,10 +2,11 @@
 use Prim.Native.Nat.{_+_}
 use mathlib.Core.Bool.{true, false, not, _&&_, _||_, Bool·beq}
 use mathlib.Core.List.{List, [], _∷_}
-use lib.Dec.{leb}
+use lib.Dec.{eqb, leb}
 use lib.ListN.{replicate}
-use Rattle.rules.specs.Card.{answersIn}
-use Rattle.rules.specs.CaseForms.{none, SV, P1, R1, E1, Match, Latch, Programming, zero, released}
+use Rattle.rules.specs.declared.Answer.the-variants.{Pin, Refused}
+use Rattle.rules.specs.Card.{numberOf, pinOf, answersIn}
+use Rattle.rules.specs.CaseForms.{none, SV, P1, R1, E1, Match, Latch, Programming, zero, one, released}
 use Rattle.rules.specs.CaseForms.{cardAt, sample, sameBytes, Case, Refuses, Claims, oneStep, refusesStep, madeUpAt, soundAt, unready}
 use Rattle.rules.specs.CaseRanges.{eachIn, eachOf}
 use Rattle.rules.specs.ClaimsRefusals.{RefusalRow, refusalRow, Up, Down, Either, refusedBy, refusesAs, refusesPairs, isMadeUp, fusesGet}
@@ -57,6 +58,7 @@ orderCases =
     Refuses (cardAt 0 7 [] 0 none) [] 0 10 ∷
     Refuses (cardAt 0 7 (replicate 173 255) 0 none) [] 0 10 ∷
     Refuses (cardAt 0 7 (replicate 175 255) 0 none) [] 0 10 ∷
+    unready 16 7 (replicate 175 255) none 17 10 ∷
     unready 0 8 (replicate 175 255) SV 64 10 ∷
     unready 0 8 (replicate 173 255) none 0 10 ∷
     unready 0 7 (replicate 173 255) SV 0 10 ∷
@@ -65,12 +67,14 @@ orderCases =
     Refuses (cardAt 0 7 (replicate 173 255) 0 none) (0 ∷ []) 0 10 ∷
     -- 14 "fuse byte over 7": every byte.
     Claims (eachIn 0 7 (fusesGet 0) && eachIn 8 255 (fusesGet 14)) ∷
+    unready 16 8 sample none 17 14 ∷
     unready 0 8 sample SV 64 14 ∷
     unready 0 8 sample SV 0 14 ∷
     unready 0 8 sample none 64 14 ∷
     Refuses (cardAt 0 8 sample 0 none) (replicate 4097 0) 4097 14 ∷
     Refuses (cardAt 0 8 sample 0 none) (0 ∷ []) 0 14 ∷
     -- 9 "made-up state".
+    unready 16 7 sample SV 17 9 ∷
     unready 0 7 sample SV 64 9 ∷
     unready 0 7 sample SV 3 9 ∷
     Refuses (cardAt 0 7 sample 0 SV) (replicate 4097 0) 4097 9 ∷
@@ -108,6 +112,14 @@ stateCases =
     (λ a.
     Bool·beq (isMadeUp 17 a Match) (not (leb 81 a && leb a 103 || leb 1201 a && leb a 1359)) &&
     (Bool·beq (isMadeUp 17 a E1) (not (leb 1232 a)) && not (isMadeUp 17 a (SV + P1 + R1))))) ∷
+    []
+
+-- "with the number, marked as a refusal, in place of a pin answer": the refusal of an answer, and its pin.
+unfoldable pub answerCases : List Case
+unfolding numberOf pinOf
+answerCases =
+    Claims (eqb (numberOf (Pin zero)) 0 && (eqb (numberOf (Pin one)) 0 && eqb (numberOf (Refused 3)) 3)) ∷
+    Claims (eqb (pinOf (Pin zero)) zero && (eqb (pinOf (Pin one)) one && eqb (pinOf (Refused 3)) released)) ∷
     []
 
 -- "The rest of the answers buffer keeps its bytes."
