@@ -13,7 +13,7 @@ use Rattle.rules.specs.CaseForms.{none, SV, P1, R1, E1, Match, L1, L2, c
 use Rattle.rules.specs.CaseForms.{cardAt, idleAt, ones, zeros, image, sample, cardFile, session}
 use Rattle.rules.specs.CaseForms.{Case, Runs, Refuses, OpensCard, OpensSession, Prints, joined, every, writes, erases, walks, blows}
 use Rattle.rules.specs.CasesSteps.{lineCases, cutCases, arrivalCases, pinCases}
-use Rattle.rules.specs.CasesRights.{zoneCases, eraseCases, imageCases, programCases, blockCases, fuseCases}
+use Rattle.rules.specs.CasesRights.{zoneCases, eraseCases, imageCases, programCases, operationCases, blockCases, fuseCases}
 use Rattle.rules.specs.CasesMatch.{codeCases, keyCases}
 use Rattle.rules.specs.CasesRefusals.{stepRefusals, orderCases, stateCases, answerCases, bufferCases}
 use Rattle.rules.specs.CasesFiles.{fileCases, triesCases, actCases, makerCases}
@@ -72,7 +72,7 @@ edges =
 
 -- The long runs stand last: a wrong version is mostly refused before them.
 unfoldable pub table : List Case
-unfolding joined caseS edges lineCases cutCases arrivalCases pinCases zoneCases eraseCases imageCases programCases blockCases fuseCases codeCases keyCases stepRefusals orderCases stateCases answerCases bufferCases fileCases triesCases actCases makerCases
+unfolding joined caseS edges lineCases cutCases arrivalCases pinCases zoneCases eraseCases imageCases programCases operationCases blockCases fuseCases codeCases keyCases stepRefusals orderCases stateCases answerCases bufferCases fileCases triesCases actCases makerCases
 table =
     joined
     ((caseS ∷ []) ∷
@@ -83,6 +83,7 @@ table =
     eraseCases ∷
     imageCases ∷
     programCases ∷
+    operationCases ∷
     blockCases ∷
     fuseCases ∷
     stepRefusals ∷

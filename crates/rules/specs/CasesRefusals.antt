@@ -9,8 +9,8 @@ use Rattle.rules.specs.Card.{numberOf, pinOf, answersIn}
 use Rattle.rules.specs.CaseForms.{none, SV, P1, R1, E1, Match, Latch, Programming, zero, one, released}
 use Rattle.rules.specs.CaseForms.{cardAt, sample, sameBytes, Case, Refuses, Claims, oneStep, refusesStep, madeUpAt, soundAt, unready}
 use Rattle.rules.specs.CaseRanges.{eachIn, eachOf}
-use Rattle.rules.specs.ClaimsRefusals.{RefusalRow, refusalRow, Up, Down, Either, refusedBy, refusesAs, refusesPairs, isMadeUp, fusesGet}
 use Rattle.rules.specs.ClaimForms.{borders}
+use Rattle.rules.specs.ClaimsRefusals.{RefusalRow, refusalRow, Up, Down, Either, refusedBy, refusesAs, refusesPairs, isMadeUp, fusesGet}
 
 -- 3 "RST or FUS changes in programming", 4 "CLK falls in programming with PGM high", 5 "RST falls with CLK high", 6 "PGM rises with CLK
 -- high", 7 "VCC rises with CLK or PGM high"; "3 to 6 need VCC".

@@ -3,12 +3,17 @@ use Prim.Native.Nat.{_+_, _-_}
 use mathlib.Core.Bool.{true, false, not, _&&_}
 use mathlib.Core.List.{List, [], _∷_}
 use lib.ListN.{set}
-use Rattle.rules.specs.CaseForms.{none, SV, P1, R1, E1, L1, L2}
+use lib.Dec.{eqb}
 use Rattle.memory.specs.Image.{bit, written, erasedWord, filled}
+use Rattle.rules.specs.declared.Zone.the-variants.{Gap}
+use Rattle.rules.specs.declared.Operation.the-variants.{Nothing, WriteBit, EraseWord, EraseZone}
+use Rattle.rules.specs.declared.Operation.the-variants.{WriteBlock, EraseBlock, BlowMF, BlowECEN, BlowISS}
+use Rattle.rules.specs.Programming.{turns, effect, memoryAfter, fusesAfter}
+use Rattle.rules.specs.CaseForms.{none, SV, P1, R1, E1, L1, L2}
 use Rattle.rules.specs.CaseForms.{ones, zeros, image, sample, sameBytes, Case, Claims, writes, erases, blows}
 use Rattle.rules.specs.CaseRanges.{eachIn, eachOf}
-use Rattle.rules.specs.ClaimsRights.{MF, Always, Never, With, SV-or-R1, ZoneRow, zoneRow, accessed, needsRstLow, FuseRow, fuseRow, blown, empty}
 use Rattle.rules.specs.ClaimForms.{leaves, changesNothing, everything, bitWritten, applicationErased, blockWritten, blockErased}
+use Rattle.rules.specs.ClaimsRights.{MF, Always, Never, With, SV-or-R1, ZoneRow, zoneRow, accessed, needsRstLow, FuseRow, fuseRow, blown, empty}
 
 -- 01's table: bits; read, write and erase at level 1; the same at level 2. The erase in EC at level 2 is the one of the application zone.
 unfoldable pub zoneRows : List ZoneRow
@@ -74,6 +79,21 @@ programCases =
     erases L1 7 zeros 177 SV (image ((22, 0) ∷ (2, 255) ∷ (150, 0) ∷ [])) ∷
     writes L1 7 ones 176 (SV + P1 + R1) (set ones 22 0x7f) ∷
     writes L1 7 ones 177 (SV + P1 + R1) (set ones 22 0xbf) ∷
+    []
+
+-- "a write that turns a 1 into 0": no other operation does. At a gap there is none.
+unfoldable pub operationCases : List Case
+unfolding turns effect memoryAfter fusesAfter ones zeros sameBytes eachOf
+operationCases =
+    Claims
+    (eachOf (Nothing ∷ EraseWord ∷ EraseZone ∷ WriteBlock ∷ EraseBlock ∷ BlowMF ∷ BlowECEN ∷ BlowISS ∷ [])
+    (λ op. not (turns op ones 96) && not (turns op ones 1232))) ∷
+    Claims (turns WriteBit ones 96 && not (turns WriteBit zeros 96)) ∷
+    Claims
+    (eachOf (true ∷ false ∷ [])
+    (λ latch.
+    let op = effect latch latch Gap in
+    eqb (fusesAfter op 7) 7 && (sameBytes (memoryAfter op 96 ones) ones && sameBytes (memoryAfter op 96 zeros) zeros))) ∷
     []
 
 -- "Block, 1392 to 1407, RST low, L1, SV: bits 16 to 1359 take the latched bit; fuses stay."

@@ -9,8 +9,8 @@ use Rattle.rules.specs.Maker.{reset}
 use Rattle.rules.specs.CaseForms.{none, SV, P1, R1, E1, Match, Latch, Programming, L1, L2, zero, one, released}
 use Rattle.rules.specs.CaseForms.{cardAt, idleAt, ones, zeros, sample, Case, Runs, Shows, Claims, walks, oneStep, cuts}
 use Rattle.rules.specs.CaseRanges.{eachIn, eachOf}
-use Rattle.rules.specs.ClaimsSteps.{neverRead, movesOn, arrives}
 use Rattle.rules.specs.ClaimForms.{borders}
+use Rattle.rules.specs.ClaimsSteps.{neverRead, movesOn, arrives}
 
 -- All flags, and match, in EC.
 abbrev allSet : ℕ
