@@ -1,4 +1,6 @@
 // Reads a session from standard input, runs it on a fresh card and prints `bad N` alone or the four lines.
+use console::Input;
+use console::Output;
 use file::Session;
 use report::Text;
 ghost use mathlib.Core.Path.{_≡_};
@@ -29,11 +31,17 @@ fn answer(session: &[u8], out: &mut [u8]) -> Text
 
 // A session has at most 181 + 4096 bytes, so one more tells a longer input. 4,202 bytes hold every text.
 fn main() {
-    let mut input = [0u8; 4278];
-    let n = io::read_full(0, &mut input);
-    let mut out = [0u8; 4202];
-    let Text::Wrote(length) = answer(&input[..n], &mut out) else {
+    let out = console::start(b"session");
+    let Output::Open = out else {
         return;
     };
-    io::write_all(1, &out[..length]);
+    let mut input = [0u8; 4278];
+    let Input::Bytes(n) = console::read_input(b"session", &mut input) else {
+        return;
+    };
+    let mut text = [0u8; 4202];
+    let Text::Wrote(length) = answer(&input[..n], &mut text) else {
+        return;
+    };
+    out.say(&text[..length]).end(b"session");
 }
