@@ -1,7 +1,5 @@
 // The night that went wrong: nine visits with the right code, by a reader that spends a try and never erases, and by one that erases.
-use io::print_decimal;
-use io::write_all;
-use libc::STDOUT_FILENO;
+use console::Output;
 use maker::Made;
 use rules::Answer;
 use volatile::Volatile;
@@ -18,6 +16,20 @@ const ERASE: usize = 6;
 struct Halves {
     fuses: u8,
     volatile: Volatile,
+}
+
+// How many steps the maker's open has, and the number by which it was refused, 0 if it was not.
+struct Opening {
+    count: usize,
+    refusal: u8,
+}
+
+// What a visit showed, and the card behind it.
+struct Seen {
+    refusal: u8,
+    pin: u8,
+    left: u32,
+    halves: Halves,
 }
 
 fn send(memory: &mut [u8], halves: Halves, steps: &[u8]) -> Halves {
@@ -58,15 +70,19 @@ fn count(made: Made) -> usize {
 }
 
 // The maker's open for the tries that are left. Where none is, the one for bit 96 all the same.
-fn open_steps(attempts: u8, steps: &mut [u8]) -> usize {
+fn open_steps(attempts: u8, steps: &mut [u8]) -> Opening {
     let made = maker::open(false, CODE, attempts, steps);
     let Made::Refused(k) = made else {
-        return count(made);
+        return Opening {
+            count: count(made),
+            refusal: 0,
+        };
     };
-    write_all(STDOUT_FILENO, b"no try, the step maker refuses by ");
-    print_decimal(STDOUT_FILENO, k as u64);
-    write_all(STDOUT_FILENO, b"; bit 96 written all the same: ");
-    count(maker::open(false, CODE, 128, steps))
+    let at_96 = maker::open(false, CODE, 128, steps);
+    Opening {
+        count: count(at_96),
+        refusal: k,
+    }
 }
 
 // The steps before the last `off` of the first n.
@@ -80,31 +96,42 @@ fn before_last(steps: &[u8], n: usize, off: usize) -> &[u8] {
     &steps[0..0]
 }
 
-fn tell(p: u8, left: u32) {
-    if p == 0 {
-        write_all(STDOUT_FILENO, b"pin 0, open, tries left ");
-    } else {
-        write_all(STDOUT_FILENO, b"pin 1, shut, tries left ");
-    }
-    print_decimal(STDOUT_FILENO, left as u64);
-    write_all(STDOUT_FILENO, b"\n");
-}
-
-fn announce(nth: u64) {
-    write_all(STDOUT_FILENO, b"visit ");
-    print_decimal(STDOUT_FILENO, nth);
-    write_all(STDOUT_FILENO, b": ");
-}
-
 // From power-on to power-off. The last `off` steps of the maker's open are left off.
-fn visit(memory: &mut [u8; 174], halves: Halves, off: usize) -> Halves {
+fn visit(memory: &mut [u8; 174], halves: Halves, off: usize) -> Seen {
     let on = send(memory, halves, &[16, IDLE]);
     let mut steps = [0u8; 240];
-    let n = open_steps(memory[12], &mut steps);
-    let opened = send(memory, on, before_last(&steps, n, off));
+    let opening = open_steps(memory[12], &mut steps);
+    let opened = send(memory, on, before_last(&steps, opening.count, off));
     let there = go_to_178(memory, opened);
-    tell(pin(memory, there), card::tries_left(memory));
-    send(memory, there, &[16, 0])
+    let p = pin(memory, there);
+    let left = card::tries_left(memory);
+    let after = send(memory, there, &[16, 0]);
+    Seen {
+        refusal: opening.refusal,
+        pin: p,
+        left: left,
+        halves: after,
+    }
+}
+
+fn tell_refusal(out: Output, k: u8) -> Output {
+    if k == 0 {
+        return out;
+    }
+    let out = out.say(b"no try, the step maker refuses by ")
+        .number(k as u64);
+    out.say(b"; bit 96 written all the same: ")
+}
+
+fn tell(out: Output, nth: u64, seen: Seen) -> Output {
+    let out = out.say(b"visit ").number(nth).say(b": ");
+    let out = tell_refusal(out, seen.refusal);
+    let out = if seen.pin == 0 {
+        out.say(b"pin 0, open, tries left ")
+    } else {
+        out.say(b"pin 1, shut, tries left ")
+    };
+    out.number(seen.left as u64).say(b"\n")
 }
 
 // The code stands in bits 80 to 95; bits 177 and 178 are 0, so that only SV lets the application zone be read.
@@ -117,37 +144,28 @@ fn image() -> [u8; 174] {
 }
 
 // An issued card: ISS is blown.
-fn visits(off: usize) {
+fn visits(out: Output, off: usize) -> Output {
     let mut memory = image();
     let mut halves = Halves {
         fuses: 3,
         volatile: Volatile::fresh(),
     };
+    let mut told = out;
     let mut nth = 1;
     while nth <= 9 {
-        announce(nth);
-        halves = visit(&mut memory, halves, off);
+        let seen = visit(&mut memory, halves, off);
+        told = tell(told, nth, seen);
+        halves = seen.halves;
         nth += 1;
     }
+    told
 }
 
 fn main() {
-    write_all(
-        STDOUT_FILENO,
-        b"Nine visits, each from power-on to power-off, each with the right code.\n",
-    );
-    write_all(
-        STDOUT_FILENO,
-        b"The pin is read at bit 178, a 0 of the application zone: 0 is open, 1 is shut.\n",
-    );
-    write_all(
-        STDOUT_FILENO,
-        b"\nA reader that spends a try and never erases:\n",
-    );
-    visits(ERASE);
-    write_all(
-        STDOUT_FILENO,
-        b"\nA reader that erases, by the step maker's own open:\n",
-    );
-    visits(0);
+    let out = console::start(b"night")
+        .say(b"Nine visits, each from power-on to power-off, each with the right code.\n")
+        .say(b"The pin is read at bit 178, a 0 of the application zone: 0 is open, 1 is shut.\n")
+        .say(b"\nA reader that spends a try and never erases:\n");
+    let out = visits(out, ERASE).say(b"\nA reader that erases, by the step maker's own open:\n");
+    visits(out, 0).end(b"night");
 }

@@ -4,10 +4,10 @@ use Rattle.night.proofs.visits.Statement.{statement}
 use Rattle.night.proofs.visits.Tie as tie
 
 abbrev Inv-loop : tie.InvT-loop
-Inv-loop off memory₀ halves₀ nth₀ memory halves nth = Unit
+Inv-loop off memory₀ halves₀ told₀ nth₀ memory halves told nth = Unit
 
 abbrev μ-loop : tie.MeasureT-loop
-μ-loop off memory₀ halves₀ nth₀ memory halves nth = 10 - nth
+μ-loop off memory₀ halves₀ told₀ nth₀ memory halves told nth = 10 - nth
 
 image-requires : tie.Need-image-requires Inv-loop μ-loop
 image-requires c κs = search needs
@@ -18,11 +18,11 @@ fresh-requires c κs = search needs
 loop-holds : tie.Need-loop-holds Inv-loop μ-loop
 loop-holds c = search needs
 
-announce-requires : tie.Need-announce-requires Inv-loop μ-loop
-announce-requires c κs = search needs
-
 visit-requires : tie.Need-visit-requires Inv-loop μ-loop
 visit-requires c κs = search needs
+
+tell-requires : tie.Need-tell-requires Inv-loop μ-loop
+tell-requires c κs = search needs
 
 add-nth : tie.Need-add-nth Inv-loop μ-loop
 add-nth c = search needs
@@ -45,8 +45,8 @@ visits-spec =
     image-requires
     fresh-requires
     loop-holds
-    announce-requires
     visit-requires
+    tell-requires
     add-nth
     loop-less
     loop-again
