@@ -1,7 +1,6 @@
 // 10 and 14 of a step, 18 and 19 of a run, on a fresh card.
 use crate::numbers::number;
-use crate::table::head;
-use crate::table::row;
+use crate::table::Table;
 use volatile::Volatile;
 
 fn fresh_step(memory: &mut [u8], fuses: u8) -> u32 {
@@ -19,10 +18,9 @@ fn part(memory: &mut [u8], bytes: usize) -> u32 {
 }
 
 // Up to 175 bytes.
-fn sized(d: u32, bytes: u32, expected: u32) -> u32 {
+fn sized(t: Table, bytes: u32, expected: u32) -> Table {
     let mut memory = [255u8; 175];
-    row(
-        d,
+    t.row(
         b"  bytes ",
         bytes,
         expected,
@@ -30,10 +28,9 @@ fn sized(d: u32, bytes: u32, expected: u32) -> u32 {
     )
 }
 
-fn fused(d: u32, fuses: u8, expected: u32) -> u32 {
+fn fused(t: Table, fuses: u8, expected: u32) -> Table {
     let mut memory = [255u8; 174];
-    row(
-        d,
+    t.row(
         b"  fuse byte ",
         fuses as u32,
         expected,
@@ -41,14 +38,14 @@ fn fused(d: u32, fuses: u8, expected: u32) -> u32 {
     )
 }
 
-fn ten_and_fourteen(d: u32) -> u32 {
-    head(b"10: memory buffer isn't 174 bytes");
-    let d = sized(d, 173, 10);
-    let d = sized(d, 174, 0);
-    let d = sized(d, 175, 10);
-    head(b"14: fuse byte over 7");
-    let d = fused(d, 8, 14);
-    fused(d, 7, 0)
+fn ten_and_fourteen(t: Table) -> Table {
+    let t = t.head(b"10: memory buffer isn't 174 bytes");
+    let t = sized(t, 173, 10);
+    let t = sized(t, 174, 0);
+    let t = sized(t, 175, 10);
+    let t = t.head(b"14: fuse byte over 7");
+    let t = fused(t, 8, 14);
+    fused(t, 7, 0)
 }
 
 // So many of the steps, with room for so many answers.
@@ -71,23 +68,23 @@ fn run_part(given: &[u8], steps: usize, answers: &mut [u8], room: usize) -> u32 
 }
 
 // Steps without a difference, up to 4,097.
-fn run(d: u32, steps: u32, room: usize, expected: u32) -> u32 {
+fn run(t: Table, steps: u32, room: usize, expected: u32) -> Table {
     let given = [0u8; 4097];
     let mut answers = [0u8; 4097];
     let got = run_part(&given, steps as usize, &mut answers, room);
-    row(d, b"  steps ", steps, expected, got)
+    t.row(b"  steps ", steps, expected, got)
 }
 
-fn eighteen_and_nineteen(d: u32) -> u32 {
-    head(b"18: a run of over 4,096 steps");
-    let d = run(d, 4097, 4097, 18);
-    let d = run(d, 4096, 4097, 0);
-    head(b"19: answer buffer shorter than the steps, here room for two");
-    let d = run(d, 3, 2, 19);
-    run(d, 2, 2, 0)
+fn eighteen_and_nineteen(t: Table) -> Table {
+    let t = t.head(b"18: a run of over 4,096 steps");
+    let t = run(t, 4097, 4097, 18);
+    let t = run(t, 4096, 4097, 0);
+    let t = t.head(b"19: answer buffer shorter than the steps, here room for two");
+    let t = run(t, 3, 2, 19);
+    run(t, 2, 2, 0)
 }
 
-pub(crate) fn rows(d: u32) -> u32 {
-    let d = ten_and_fourteen(d);
-    eighteen_and_nineteen(d)
+pub(crate) fn rows(t: Table) -> Table {
+    let t = ten_and_fourteen(t);
+    eighteen_and_nineteen(t)
 }

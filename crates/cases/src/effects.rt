@@ -1,7 +1,5 @@
 // What steps leave behind: the memory and the volatile half.
-use crate::table;
-use crate::table::head;
-use crate::table::row;
+use crate::table::Table;
 use memory::is_set;
 use volatile::Volatile;
 
@@ -30,72 +28,74 @@ fn at(levels: u32, address: u32, flags: u32) -> Volatile {
 }
 
 // The steps of a card at v: none is refused, and this is the volatile half after them.
-fn run(d: u32, memory: &mut [u8], v: Volatile, steps: &[u8], after: Volatile) -> u32 {
+fn run(t: Table, memory: &mut [u8], v: Volatile, steps: &[u8], after: Volatile) -> Table {
     let mut answers = [0u8; 8];
     let ran = card::run(memory, 7, v, steps, &mut answers);
     let half = ran.volatile;
-    table::from(v);
-    let d = table::numbers(d, 0, ran.refusal as u32);
-    table::half(d, after, half)
+    let t = t.from(v);
+    let t = t.numbers(0, ran.refusal as u32);
+    t.half(after, half)
 }
 
 // A memory of ones, which the steps leave as it is.
-fn kept(d: u32, v: Volatile, steps: &[u8], after: Volatile) -> u32 {
+fn kept(t: Table, v: Volatile, steps: &[u8], after: Volatile) -> Table {
     let mut memory = [255u8; 174];
-    let d = run(d, &mut memory, v, steps, after);
-    row(d, b"  byte ", 12, 255, wide(memory[12]))
+    let t = run(t, &mut memory, v, steps, after);
+    t.row(b"  byte ", 12, 255, wide(memory[12]))
 }
 
-fn clock(d: u32) -> u32 {
-    head(b"Address 1519, clock: 0. From 1518: 1519.");
-    let d = kept(d, at(17, 1518, 0), &[21, 17], at(17, 1519, 0));
-    kept(d, at(17, 1519, 0), &[21, 17], at(17, 0, 0))
+fn clock(t: Table) -> Table {
+    let t = t.head(b"Address 1519, clock: 0. From 1518: 1519.");
+    let t = kept(t, at(17, 1518, 0), &[21, 17], at(17, 1519, 0));
+    kept(t, at(17, 1519, 0), &[21, 17], at(17, 0, 0))
 }
 
-fn lines_alone(d: u32) -> u32 {
-    head(b"A step with no difference is accepted and changes nothing.");
+fn lines_alone(t: Table) -> Table {
+    let t = t.head(b"A step with no difference is accepted and changes nothing.");
     let v = at(29, 96, SV + MATCH + LATCH + PROGRAMMING);
-    let d = kept(d, v, &[29], v);
-    head(b"Without VCC the lines only follow: CLK up, RST up and down, PGM up, CLK down.");
-    kept(d, at(0, 0, 0), &[4, 6, 4, 12, 8], at(8, 0, 0))
+    let t = kept(t, v, &[29], v);
+    let t = t.head(
+        b"Without VCC the lines only follow: CLK up, RST up and down, PGM up, CLK down.",
+    );
+    kept(t, at(0, 0, 0), &[4, 6, 4, 12, 8], at(8, 0, 0))
 }
 
-fn power_lost(d: u32) -> u32 {
-    head(b"VCC falls in programming, a write at 96: memory unchanged, flags gone.");
-    kept(d, at(5, 96, MATCH + PROGRAMMING), &[4], at(4, 0, 0))
+fn power_lost(t: Table) -> Table {
+    let t = t.head(b"VCC falls in programming, a write at 96: memory unchanged, flags gone.");
+    kept(t, at(5, 96, MATCH + PROGRAMMING), &[4], at(4, 0, 0))
 }
 
 // A write or an erase of a memory whose bytes are all alike: byte i after it. The volatile half stays.
-fn program(d: u32, erases: bool, v: Volatile, fill: u8, i: u32, byte: u32) -> u32 {
+fn program(t: Table, erases: bool, v: Volatile, fill: u8, i: u32, byte: u32) -> Table {
     let mut memory = [fill; 174];
     let mut steps = [0u8; 6];
     maker::program(is_set(v.lines, volatile::FUS), erases, &mut steps);
-    let d = run(d, &mut memory, v, &steps, v);
+    let t = run(t, &mut memory, v, &steps, v);
     if i < 174 {
-        return row(d, b"  byte ", i, byte, wide(memory[i as usize]));
+        return t.row(b"  byte ", i, byte, wide(memory[i as usize]));
     }
-    d
+    t
 }
 
-fn without_sv(d: u32) -> u32 {
-    head(b"SV 0: MTZ erases, CPZ doesn't.");
-    let d = program(d, true, at(17, 1360, 0), 0, 170, 255);
-    program(d, true, at(17, 112, 0), 0, 14, 0)
+fn without_sv(t: Table) -> Table {
+    let t = t.head(b"SV 0: MTZ erases, CPZ doesn't.");
+    let t = program(t, true, at(17, 1360, 0), 0, 170, 255);
+    program(t, true, at(17, 112, 0), 0, 14, 0)
 }
 
-fn standing(d: u32) -> u32 {
-    head(b"Erase standing on 176, on 177: ones, and no P1, no R1.");
-    let d = program(d, true, at(49, 176, SV), 0, 22, 255);
-    let d = program(d, true, at(49, 177, SV), 0, 22, 255);
-    head(b"Write standing on 176, on 177: the bit is 0, and P1, R1 stay.");
-    let d = program(d, false, at(49, 176, SV + P1), 255, 22, 127);
-    program(d, false, at(49, 177, SV + R1), 255, 22, 191)
+fn standing(t: Table) -> Table {
+    let t = t.head(b"Erase standing on 176, on 177: ones, and no P1, no R1.");
+    let t = program(t, true, at(49, 176, SV), 0, 22, 255);
+    let t = program(t, true, at(49, 177, SV), 0, 22, 255);
+    let t = t.head(b"Write standing on 176, on 177: the bit is 0, and P1, R1 stay.");
+    let t = program(t, false, at(49, 176, SV + P1), 255, 22, 127);
+    program(t, false, at(49, 177, SV + R1), 255, 22, 191)
 }
 
-pub(crate) fn rows(d: u32) -> u32 {
-    let d = clock(d);
-    let d = without_sv(d);
-    let d = lines_alone(d);
-    let d = power_lost(d);
-    standing(d)
+pub(crate) fn rows(t: Table) -> Table {
+    let t = clock(t);
+    let t = without_sv(t);
+    let t = lines_alone(t);
+    let t = power_lost(t);
+    standing(t)
 }

@@ -6,11 +6,14 @@ mod states;
 mod table;
 mod words;
 
+use table::Table;
+
 fn main() {
-    table::head(b"Each step from -> to: 0 is accepted, else the number of the refusal.");
-    let d = numbers::rows(0);
-    let d = states::rows(d);
-    let d = buffers::rows(d);
-    let d = effects::rows(d);
-    table::total(d);
+    let t = Table::new(console::start(b"cases"));
+    let t = t.head(b"Each step from -> to: 0 is accepted, else the number of the refusal.");
+    let t = numbers::rows(t);
+    let t = states::rows(t);
+    let t = buffers::rows(t);
+    let t = effects::rows(t);
+    t.total().end(b"cases");
 }

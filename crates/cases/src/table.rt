@@ -1,68 +1,87 @@
 // The rows of the table, and how many of them differ.
 use crate::words;
-use io::print_decimal;
-use io::write_all;
-use libc::STDOUT_FILENO;
+use console::Output;
 use volatile::Volatile;
 
-pub(crate) fn head(text: &[u8]) {
-    write_all(STDOUT_FILENO, b"\n");
-    write_all(STDOUT_FILENO, text);
-    write_all(STDOUT_FILENO, b"\n");
+pub(crate) struct Table {
+    out: Output,
+    differences: u32,
 }
 
-fn column(word: &[u8], n: u32) {
-    write_all(STDOUT_FILENO, word);
-    print_decimal(STDOUT_FILENO, n as u64);
-}
-
-// One difference more, unless expected and got are the same.
-fn counted(d: u32, same: bool) -> u32 {
-    if same {
-        return d;
+impl Table {
+    pub(crate) fn new(out: Output) -> Table {
+        Table {
+            out: out,
+            differences: 0,
+        }
     }
-    std::num::wrapping_add_u32(d, 1)
-}
 
-// The end of a row.
-pub(crate) fn numbers(d: u32, expected: u32, got: u32) -> u32 {
-    column(b": expected ", expected);
-    column(b", got ", got);
-    write_all(STDOUT_FILENO, b"\n");
-    counted(d, expected == got)
-}
+    fn with(self, out: Output) -> Table {
+        Table {
+            out: out,
+            differences: self.differences,
+        }
+    }
 
-// A row of a thing and its number.
-pub(crate) fn row(d: u32, thing: &[u8], n: u32, expected: u32, got: u32) -> u32 {
-    column(thing, n);
-    numbers(d, expected, got)
-}
+    // One difference more, unless expected and got are the same.
+    fn counted(mut self, same: bool) -> Table {
+        if !same {
+            self.differences = std::num::wrapping_add_u32(self.differences, 1);
+        }
+        self
+    }
 
-// The start of a row: a run, a step, from this half.
-pub(crate) fn from(v: Volatile) {
-    write_all(STDOUT_FILENO, b"  ");
-    words::half(v);
-}
+    fn say(self, word: &[u8]) -> Table {
+        let out = self.out;
+        self.with(out.say(word))
+    }
 
-pub(crate) fn step(v: Volatile, n: u8) {
-    from(v);
-    write_all(STDOUT_FILENO, b" -> ");
-    words::lines(n as u32);
-}
+    fn column(self, word: &[u8], n: u32) -> Table {
+        let out = self.out;
+        self.with(out.say(word).number(n as u64))
+    }
 
-// A row of the volatile half.
-pub(crate) fn half(d: u32, expected: Volatile, got: Volatile) -> u32 {
-    write_all(STDOUT_FILENO, b"  comes to: expected ");
-    words::half(expected);
-    write_all(STDOUT_FILENO, b", got ");
-    words::half(got);
-    write_all(STDOUT_FILENO, b"\n");
-    let lines = expected.lines == got.lines;
-    let address = expected.address == got.address;
-    counted(d, lines & (address & (expected.flags == got.flags)))
-}
+    pub(crate) fn head(self, text: &[u8]) -> Table {
+        self.say(b"\n").say(text).say(b"\n")
+    }
 
-pub(crate) fn total(d: u32) {
-    column(b"\ndifferences: ", d);
-    write_all(STDOUT_FILENO, b"\n");
+    // The end of a row.
+    pub(crate) fn numbers(self, expected: u32, got: u32) -> Table {
+        let t = self.column(b": expected ", expected).column(b", got ", got);
+        t.say(b"\n").counted(expected == got)
+    }
+
+    // A row of a thing and its number.
+    pub(crate) fn row(self, thing: &[u8], n: u32, expected: u32, got: u32) -> Table {
+        self.column(thing, n).numbers(expected, got)
+    }
+
+    // The start of a row: a run, a step, from this half.
+    pub(crate) fn from(self, v: Volatile) -> Table {
+        let out = self.out;
+        self.with(words::half(out.say(b"  "), v))
+    }
+
+    pub(crate) fn step(self, v: Volatile, n: u8) -> Table {
+        let t = self.from(v);
+        let out = t.out;
+        t.with(words::lines(out.say(b" -> "), n as u32))
+    }
+
+    // A row of the volatile half.
+    pub(crate) fn half(self, expected: Volatile, got: Volatile) -> Table {
+        let out = self.out;
+        let out = words::half(out.say(b"  comes to: expected "), expected);
+        let out = words::half(out.say(b", got "), got);
+        let lines = expected.lines == got.lines;
+        let address = expected.address == got.address;
+        let flags = expected.flags == got.flags;
+        self.with(out.say(b"\n")).counted(lines & (address & flags))
+    }
+
+    pub(crate) fn total(self) -> Output {
+        let t = self.column(b"\ndifferences: ", self.differences);
+        let out = t.out;
+        out.say(b"\n")
+    }
 }
