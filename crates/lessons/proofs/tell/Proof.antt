@@ -2,8 +2,8 @@ use Prim.Native.Nat.{_≤_}
 use mathlib.Core.Path.{sym, _∙_}
 use lib.ListN.{length}
 use lib.Seq.{length-take-le}
-use Rattle.text.proofs.Fitting.{session-fits}
 use borrow.Author.Needs.{needs}
+use Rattle.text.proofs.Fitting.{session-fits}
 use Rattle.lessons.proofs.tell.Statement.{statement}
 use Rattle.lessons.proofs.tell.Tie as tie
 
@@ -16,8 +16,8 @@ assemble-requires c κs = search needs
 enum-known-n : tie.Need-enum-known-n
 enum-known-n c = search needs
 
-print-decimal-requires : tie.Need-print-decimal-requires
-print-decimal-requires c κs = search needs
+number-requires : tie.Need-number-requires
+number-requires c κs = search needs
 
 fits : (c : tie.After-known-told) → c .before .n .given .0 .0 ≤ length (c .before .before .before .before .assemble .last .1 .0)
 fits c = rw (c .before .before .before .before .assemble .kept .1 .0) (session-fits _ _ _ (sym (c .before .before .before .before .assemble .ensures .answer) ∙ c .before .n .given .1))
@@ -74,7 +74,7 @@ tell-spec =
     slice-aggregate-assemble
     assemble-requires
     enum-known-n
-    print-decimal-requires
+    number-requires
     array-share-prefix-session
     slice-aggregate-same
     same-requires
