@@ -1,38 +1,71 @@
 // Runs recorded sessions from standard input and holds each text to the one that an independent model gave. A record is the session and the
-// text, each after its length, two bytes, low first.
+// text, each after its length, two bytes, low first. The counts are printed only of an input that is whole records to its end.
+use console::Input;
+use console::Output;
 use file::Session;
 use libc::STDIN_FILENO;
-use libc::STDOUT_FILENO;
 use report::Text;
-ghost use Rattle.io.specs.Counts.{Counts};
+ghost use Rattle.recorded.specs.Parts.{Held};
+
+const MOST: usize = 10000;
+
+// What is wrong with a record.
+enum Fault {
+    Unreadable,
+    Cut,
+    TooLong,
+    NoText,
+}
+
+enum Part {
+    Bytes(usize),
+    Over,
+    Broken(Fault),
+}
 
 // What came of a record.
 enum Outcome {
     Over,
     Same,
     Other,
-}
-
-fn say(n: usize, what: &[u8]) {
-    io::print_decimal(STDOUT_FILENO, n as u64);
-    io::write_all(STDOUT_FILENO, what);
+    Broken(Fault),
 }
 
 fn length_of(low: u8, high: u8) -> usize {
     low as usize + 256 * (high as usize)
 }
 
-// The next part of a record, nothing where the input is over.
-fn part(buffer: &mut [u8]) -> usize
-    ensures { λ r. ⌜ Counts r (now (buffer .exit)) ⌝ }
+// A part of a record, whose length has come.
+fn body(n: usize, buffer: &mut [u8]) -> Part
+    ensures { λ r. ⌜ Held r (now (buffer .exit)) ⌝ }
+{
+    if buffer.len() < n {
+        return Part::Broken(Fault::TooLong);
+    }
+    let Input::Bytes(came) = console::read_full(STDIN_FILENO, &mut buffer[0..n]) else {
+        return Part::Broken(Fault::Unreadable);
+    };
+    if came < n {
+        return Part::Broken(Fault::Cut);
+    }
+    Part::Bytes(n)
+}
+
+// The next part of a record. The input is over where it ends before a length.
+fn next_part(buffer: &mut [u8]) -> Part
+    ensures { λ r. ⌜ Held r (now (buffer .exit)) ⌝ }
 {
     let mut length = [0u8; 2];
-    io::read_full(STDIN_FILENO, &mut length);
-    let n = length_of(length[0], length[1]);
-    if buffer.len() < n {
-        return 0;
+    let Input::Bytes(came) = console::read_full(STDIN_FILENO, &mut length) else {
+        return Part::Broken(Fault::Unreadable);
+    };
+    if came == 0 {
+        return Part::Over;
     }
-    io::read_full(STDIN_FILENO, &mut buffer[0..n])
+    if came == 1 {
+        return Part::Broken(Fault::Cut);
+    }
+    body(length_of(length[0], length[1]), buffer)
 }
 
 // What the session program prints of it.
@@ -59,34 +92,77 @@ fn as_recorded(session: &[u8], text: &[u8]) -> bool {
     check::same(&out[0..n], text)
 }
 
-fn next_record() -> Outcome {
-    let mut session = [0u8; 4352];
+// The outcome of a session whose text is the next part.
+fn against(session: &[u8]) -> Outcome {
     let mut text = [0u8; 4202];
-    let n = part(&mut session);
-    let m = part(&mut text);
-    if m == 0 {
-        return Outcome::Over;
-    }
-    if as_recorded(&session[..n], &text[..m]) {
-        Outcome::Same
-    } else {
-        Outcome::Other
-    }
-}
-
-fn main() {
-    let mut same = 0;
-    let mut other = 0;
-    while same + other < 10000 {
-        match next_record() {
-            Outcome::Over => break,
-            Outcome::Same => same += 1,
-            Outcome::Other => {
-                other += 1;
-                say(same + other, b" is not as recorded\n");
+    match next_part(&mut text) {
+        Part::Over => Outcome::Broken(Fault::Cut),
+        Part::Broken(fault) => Outcome::Broken(fault),
+        Part::Bytes(n) => {
+            if n == 0 {
+                return Outcome::Broken(Fault::NoText);
+            }
+            if as_recorded(session, &text[..n]) {
+                Outcome::Same
+            } else {
+                Outcome::Other
             }
         }
     }
-    say(same, b" sessions as recorded\n");
-    say(other, b" otherwise\n");
+}
+
+// A session that is recorded damaged may be a little longer than the longest.
+fn next_record() -> Outcome {
+    let mut session = [0u8; 4352];
+    match next_part(&mut session) {
+        Part::Over => Outcome::Over,
+        Part::Broken(fault) => Outcome::Broken(fault),
+        Part::Bytes(n) => against(&session[..n]),
+    }
+}
+
+fn stop(out: Output, fault: Fault, nth: usize) -> Output {
+    let mut digits = [0u8; 20];
+    let k = io::decimal(nth as u64, &mut digits);
+    match fault {
+        Fault::Unreadable => out.stop(b"recorded", b"standard input cannot be read", b""),
+        Fault::Cut => out.stop(b"recorded", b"the input ends in record ", &digits[..k]),
+        Fault::TooLong => out.stop(b"recorded", b"a part is too long in record ", &digits[..k]),
+        Fault::NoText => out.stop(b"recorded", b"no text in record ", &digits[..k]),
+    }
+}
+
+fn counts(out: Output, same: usize, other: usize) -> Output {
+    if (same == 0) & (other == 0) {
+        return out.stop(b"recorded", b"no record", b"");
+    }
+    let out = out.number(same as u64).say(b" sessions as recorded\n");
+    out.number(other as u64).say(b" otherwise\n")
+}
+
+fn records(out: Output) -> Output {
+    let mut out = out;
+    let mut same = 0;
+    let mut other = 0;
+    while same + other <= MOST {
+        match next_record() {
+            Outcome::Over => return counts(out, same, other),
+            Outcome::Broken(fault) => return stop(out, fault, same + other + 1),
+            Outcome::Same => same += 1,
+            Outcome::Other => {
+                other += 1;
+                out = out.number((same + other) as u64)
+                    .say(b" is not as recorded\n");
+            }
+        }
+    }
+    out.stop(b"recorded", b"more than 10,000 records", b"")
+}
+
+fn main() {
+    let out = console::start(b"recorded");
+    let Output::Open = out else {
+        return;
+    };
+    records(out).end(b"recorded");
 }
