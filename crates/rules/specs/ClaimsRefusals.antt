@@ -1,10 +1,11 @@
 -- When the rows of refusals hold: 01, "Numbers a caller can get".
 use Prim.Native.Nat.{ℕ, _+_, _-_, _/_, _%_}
-use mathlib.Core.Bool.{Bool, true, false, cond, not, _&&_, _||_}
+use mathlib.Core.Bool.{Bool, true, false, cond, not, _&&_, _||_, Bool·beq}
 use mathlib.Core.List.{List, [], _∷_}
 use lib.Dec.{eqb, leb}
 use Rattle.rules.specs.Halves.{fresh}
-use Rattle.rules.specs.Refusals.{refusal, madeUp, stateRefusal}
+use Rattle.rules.specs.Lines.{Line, VCC, RST, CLK, PGM, IO, FUS, edge}
+use Rattle.rules.specs.Refusals.{rises, falls, refusal, madeUp, stateRefusal}
 use Rattle.rules.specs.CaseForms.{none, Programming}
 use Rattle.rules.specs.CaseForms.{state, sample}
 use Rattle.rules.specs.CaseRanges.{eachOf}
@@ -66,8 +67,22 @@ unfoldable pub flipped : ℕ → ℕ → ℕ
 unfolding isHigh
 flipped x levels = cond (isHigh x levels) (levels - x) (levels + x)
 
-abbrev pub lineWeights : List ℕ
-lineWeights = 1 ∷ 2 ∷ 4 ∷ 8 ∷ 16 ∷ 32 ∷ []
+-- "VCC 1, RST 2, CLK 4, PGM 8, I/O 16 .., FUS 32"
+abbrev pub lines : List (Line × ℕ)
+lines = (VCC, 1) ∷ (RST, 2) ∷ (CLK, 4) ∷ (PGM, 8) ∷ (IO, 16) ∷ (FUS, 32) ∷ []
+
+-- Each line changes alone from these levels: it rises where it was low and falls where it was high, and no other line changes.
+unfoldable pub changesAlone : ℕ → Bool
+unfolding the-card isHigh flipped eachOf
+changesAlone levels =
+    eachOf lines
+    (λ x.
+    let e = edge levels (flipped (x .1) levels) in
+    let high = isHigh (x .1) levels in
+    eachOf lines
+    (λ y.
+    let same = eqb (x .1) (y .1) in
+    Bool·beq (rises (y .0) e) (same && not high) && Bool·beq (falls (y .0) e) (same && high)))
 
 -- From these levels no line changes, or one; with programming under way and without.
 unfoldable pub refusesAs : List RefusalRow → ℕ → Bool
@@ -76,12 +91,14 @@ refusesAs rows levels =
     eachOf (false ∷ true ∷ [])
     (λ programming.
     refusedBy levels programming levels 0 &&
-    eachOf lineWeights (λ x. refusedBy levels programming (flipped x levels) (numberBy rows x levels programming)))
+    eachOf lines (λ x. refusedBy levels programming (flipped (x .1) levels) (numberBy rows (x .1) levels programming)))
 
 -- From these levels two lines change.
 unfoldable pub refusesPairs : ℕ → Bool
 unfolding refusedBy flipped eachOf
-refusesPairs levels = eachOf lineWeights (λ x. eachOf lineWeights (λ y. leb y x || refusedBy levels true (flipped y (flipped x levels)) 2))
+refusesPairs levels =
+    eachOf lines
+    (λ x. eachOf lines (λ y. leb (y .1) (x .1) || refusedBy levels true (flipped (y .1) (flipped (x .1) levels)) 2))
 
 -- A volatile half is made up.
 unfoldable pub isMadeUp : ℕ → ℕ → ℕ → Bool
