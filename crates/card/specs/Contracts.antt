@@ -34,7 +34,7 @@ unfoldable pub stepMemory : List ℕ → ℕ → Volatile → ℕ → List ℕ
 unfolding stateNumber
 stepMemory m fuses v n = cond (eqb (stateNumber m fuses v) 0) (Rules.stepped (cardOf m fuses v) n .memory) m
 
--- What a run from a packed half comes to, in the card's own terms.
+-- The result of a run from a packed half, in the card's own terms.
 unfoldable pub ranOn : List ℕ → ℕ → Volatile → List ℕ → Rules.Ran
 ranOn m fuses v steps = Rules.run (cardOf m fuses v) steps
 

@@ -31,7 +31,7 @@ pub record Ready (m : List ℕ) (fuses : ℕ) (v : Volatile) (p : ℕ) : Type 0 
 abbrev pub moved : Volatile → ℕ → ℕ → ℕ → Moved
 moved v fuses p k = record { volatile = v; fuses = fuses; pin = p; refusal = k }
 
--- An accepted step has come to this card.
+-- An accepted step has led to this card.
 abbrev pub movedTo : Card → Moved
 movedTo c = moved (packed (c .volatile)) (c .fuses) (pin c) 0
 
@@ -61,18 +61,18 @@ movedBy m fuses v p n =
 unfoldable pub doneBy : Operation → List ℕ → ℕ → ℕ → Done
 doneBy op m fuses a = record { fuses = fusesAfter op fuses; turned = turns op m a }
 
--- A step of the card: what it comes to, and the image it leaves.
+-- A step of the card: its result, and the image it leaves.
 pub record Steps (m : List ℕ) (fuses : ℕ) (v : Volatile) (p n : ℕ) (r : Moved) (after : List ℕ) : Type 0 where
   pub moved-is : r ≡ movedBy m fuses v p n
   pub memory-is : after ≡ stepped (cardOf m fuses v) n .memory
 
--- Where a half is named, a sound card's step comes to it and changes nothing else.
+-- Where a half is named, a sound card's step leads to it and changes nothing else.
 unfoldable pub QuickTo : Volatile → ℕ → Quick → Type 0
 QuickTo v n (To after) =
     (m : List ℕ) (fuses p : ℕ) → Ready m fuses v p → Steps m fuses v p n (moved after fuses (pin (cardOf m fuses after)) 0) m
 QuickTo v n Other = Unit
 
--- What a run of a sound card comes to.
+-- The result of a run of a sound card.
 unfoldable pub ranTo : Ran → Declared.Ran
 ranTo r =
     record {
@@ -82,7 +82,7 @@ ranTo r =
       refusal = r .refused;
     }
 
--- A run: what it comes to, and the image and the answers that it leaves.
+-- A run: its result, and the image and the answers that it leaves.
 pub record Runs (m : List ℕ) (fuses : ℕ) (v : Volatile) (steps answers : List ℕ) (r : Declared.Ran) (after told : List ℕ) : Type 0 where
   pub ran-is : r ≡ ranTo (run (cardOf m fuses v) steps)
   pub memory-is : after ≡ run (cardOf m fuses v) steps .card .memory

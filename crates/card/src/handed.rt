@@ -5,7 +5,7 @@ ghost use Rattle.rules.specs.Steps.{pin};
 ghost use Rattle.volatile.specs.Packed.{cardOf};
 ghost use Rattle.card.specs.Moves.{moved};
 
-// What a step comes to inside the card: both halves, the pin, and 0 or the refusal.
+// The result of a step inside the card: both halves, the pin, and 0 or the refusal.
 pub(crate) struct Moved {
     pub(crate) volatile: Volatile,
     pub(crate) fuses: u8,

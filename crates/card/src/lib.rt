@@ -17,14 +17,14 @@ mod handed;
 mod programming;
 mod quick;
 
-// What a step comes to: both halves, and the pin's answer or the refusal.
+// The result of a step: both halves, and the pin's answer or the refusal.
 pub struct Stepped {
     pub fuses: u8,
     pub volatile: Volatile,
     pub answer: Answer,
 }
 
-// What a run comes to: both halves, how many steps were done, and the refusal, 0 if none.
+// The result of a run: both halves, how many steps were done, and the refusal, 0 if none.
 pub struct Ran {
     pub fuses: u8,
     pub volatile: Volatile,

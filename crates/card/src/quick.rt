@@ -1,4 +1,4 @@
-// What most steps come to, which a single step tells without the loop of a run.
+// The result of most steps, which a single step tells without the loop of a run.
 use memory::is_set;
 use volatile::Volatile;
 ghost use mathlib.Core.Path.{_≡_};
@@ -7,7 +7,7 @@ ghost use lib.Bits.{bitXor};
 ghost use Rattle.memory.specs.Image.{digit};
 ghost use Rattle.card.specs.Moves.{Plain, QuickTo};
 
-// The half that the step comes to. Any other step is left to the run.
+// The half after the step. Any other step is left to the run.
 pub(crate) enum Quick {
     To(Volatile),
     Other,

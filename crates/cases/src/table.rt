@@ -71,7 +71,7 @@ impl Table {
     // A row of the volatile half.
     pub(crate) fn half(self, expected: Volatile, got: Volatile) -> Table {
         let out = self.out;
-        let out = words::half(out.say(b"  comes to: expected "), expected);
+        let out = words::half(out.say(b"  result: expected "), expected);
         let out = words::half(out.say(b", got "), got);
         let lines = expected.lines == got.lines;
         let address = expected.address == got.address;

@@ -8,7 +8,7 @@ ghost use Rattle.report.specs.Buffer.{Put};
 ghost use Rattle.console.specs.Told.{toldLine};
 ghost use Rattle.console.specs.Ends.{outcome, Part, Taken, NotLost, Said, stopped};
 
-// What one read came to.
+// The outcome of one read.
 enum Read {
     Failed,
     End,

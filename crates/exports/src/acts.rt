@@ -6,7 +6,7 @@ ghost use Rattle.exports.specs.Rendered.{isHigh, madeOf};
 ghost use Rattle.exports.specs.Told.{ActTold};
 use maker::Made;
 
-// What an act comes to: how many steps were written, and the refusal, 0 if none.
+// The result of an act: how many steps were written, and the refusal, 0 if none.
 #[repr(C)]
 pub struct ZhavMade {
     pub count: usize,

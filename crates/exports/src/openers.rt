@@ -3,14 +3,14 @@ ghost use Rattle.exports.specs.Told.{CardTold, SessionTold};
 use file::CardFile;
 use file::Session;
 
-// What opening a card file comes to: the fuse byte, 0 where refused, and the refusal, 0 if none.
+// The result of opening a card file: the fuse byte, 0 where refused, and the refusal, 0 if none.
 #[repr(C)]
 pub struct ZhavCard {
     pub fuses: u8,
     pub refusal: u8,
 }
 
-// What opening a session comes to: where in the file the steps start, how many there are, the fuse byte, each 0 where refused, and the
+// The result of opening a session: where in the file the steps start, how many there are, the fuse byte, each 0 where refused, and the
 // refusal, 0 if none.
 #[repr(C)]
 pub struct ZhavSession {

@@ -10,7 +10,7 @@ use card::FlagsAnswer;
 use rules::Answer;
 use volatile::Volatile;
 
-// What a step comes to: both halves, the pin's answer, 1 where refused, and the refusal, 0 if none.
+// The result of a step: both halves, the pin's answer, 1 where refused, and the refusal, 0 if none.
 #[repr(C)]
 pub struct ZhavStepped {
     pub half: Volatile,
@@ -19,7 +19,7 @@ pub struct ZhavStepped {
     pub refusal: u8,
 }
 
-// What a step comes to beside the half that is lent.
+// The result of a step beside the half that is lent.
 #[repr(C)]
 pub struct ZhavTold {
     pub fuses: u8,
@@ -27,7 +27,7 @@ pub struct ZhavTold {
     pub refusal: u8,
 }
 
-// What a run comes to: both halves, how many steps were done, and the refusal, 0 if none.
+// The result of a run: both halves, how many steps were done, and the refusal, 0 if none.
 #[repr(C)]
 pub struct ZhavRan {
     pub half: Volatile,

@@ -11,7 +11,7 @@ use levels::RST;
 mod levels;
 mod parts;
 
-// What an act comes to: so many steps written, or the number of a refusal and nothing written.
+// The result of an act: so many steps written, or a refusal and nothing written.
 pub enum Made {
     Wrote(usize),
     Refused(u8),

@@ -15,7 +15,7 @@ use Rattle.reasons.specs.ErrorLine.{table, wordsIn, words, errorLine, en
 -- The longest words of some rows.
 unfoldable longest : List (ℕ × String) → ℕ
 unfolding bytesOf
-longest [] = length (bytesOf "another reason")
+longest [] = length (bytesOf "another refusal")
 longest ((number, said) ∷ rows) = max (length (bytesOf said)) (longest rows)
 
 within-longest : (rows : List (ℕ × String)) (reason : ℕ) → length (bytesOf (wordsIn rows reason)) ≤ longest rows

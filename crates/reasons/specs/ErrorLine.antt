@@ -24,7 +24,7 @@ table =
 
 -- The words in a reason's row, and some for a number that has none.
 unfoldable pub wordsIn : List (ℕ × String) → ℕ → String
-wordsIn [] reason = "another reason"
+wordsIn [] reason = "another refusal"
 wordsIn ((number, said) ∷ rows) reason = cond (eqb reason number) said (wordsIn rows reason)
 
 -- The words of a reason, as bytes.

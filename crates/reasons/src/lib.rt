@@ -22,7 +22,7 @@ fn put_words(out: &mut [u8], at: usize, reason: u8) -> usize
         23 => report::put(out, at, b"no 1 in bits 96 to 103: no try left"),
         22 => report::put(out, at, b"more than 4,096 steps"),
         76 => report::put(out, at, b"no room"),
-        _ => report::put(out, at, b"another reason"),
+        _ => report::put(out, at, b"another refusal"),
     }
 }
 

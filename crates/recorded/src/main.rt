@@ -23,7 +23,7 @@ enum Part {
     Broken(Fault),
 }
 
-// What came of a record.
+// The outcome of a record.
 enum Outcome {
     Over,
     Same,

@@ -7,7 +7,7 @@ ghost use Rattle.report.specs.Decimal.{digit, decimal};
 ghost use Rattle.report.specs.Lines.{numbered, line, answersLine, badText, fourLines};
 ghost use Rattle.report.specs.Buffer.{Made, Put};
 
-// What making a text came to: so many bytes written, or no room for them and the buffer as it was.
+// The result of making a text: so many bytes written, or no room for them and the buffer as it was.
 pub enum Text {
     Wrote(usize),
     TooSmall,

@@ -23,7 +23,7 @@ unfoldable pub countOf : Step → ℕ
 countOf (step.On p) = p .count
 countOf (step.Stopped k) = 0
 
--- A step of the reading comes to this outcome, with the steps within their buffer.
+-- A step of the reading has this outcome, with the steps within their buffer.
 pub record Came (expected : Outcome) (r : Step) (image steps : List ℕ) : Type 0 where
   pub outcome : outcomeOf r image steps ≡ expected
   pub within : countOf r ≤ length steps

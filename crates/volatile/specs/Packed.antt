@@ -102,7 +102,7 @@ mayProgramNow fuses v =
 unfoldable pub operationNow : ℕ → Halves.Volatile → Operation
 operationNow fuses v = operation (held fuses v) (unblown EC-EN fuses) (high RST (v .lines)) (v .latch) (v .address)
 
--- The volatile half where the address has gone on to a, and nothing came of it.
+-- The volatile half where the address has gone on to a, and nothing else changed.
 unfoldable pub goneOn : ℕ → ℕ → Halves.Volatile → Halves.Volatile
 goneOn n a v =
     record {
