@@ -49,7 +49,7 @@ Plain a =
 unfoldable pub driven-on : ℕ → Volatile → ℕ → Bool
 driven-on fuses v n = driven (record { memory = []; fuses = fuses; volatile = goneOn n (v .address + 1) (unpacked v) })
 
--- The halves, the pin and 0 after an accepted step; all as it came and the number after a refused one.
+-- The halves, the pin and 0 after an accepted step; all as it came and the refusal after a refused one.
 unfoldable pub movedBy : List ℕ → ℕ → Volatile → ℕ → ℕ → Moved
 movedBy m fuses v p n =
     let c = cardOf m fuses v in

@@ -22,7 +22,7 @@ table =
     (76, "no room") ∷
     []
 
--- The words in a reason's row, and some for a number that has none.
+-- The words of a refusal, and some for one that has no row.
 unfoldable pub wordsIn : List (ℕ × String) → ℕ → String
 wordsIn [] reason = "another refusal"
 wordsIn ((number, said) ∷ rows) reason = cond (eqb reason number) said (wordsIn rows reason)
