@@ -1,7 +1,7 @@
--- What a claim goes over.
+-- What a claim goes over, and lists that repeat.
 use Prim.Native.Nat.{ℕ, zero, suc, _-_}
 use mathlib.Core.Bool.{Bool, true, _&&_}
-use mathlib.Core.List.{List, [], _∷_}
+use mathlib.Core.List.{List, [], _∷_, _++_}
 
 -- It holds of each of the `count` numbers from `first` on.
 unfoldable pub eachFrom : ℕ → ℕ → (ℕ → Bool) → Bool
@@ -17,3 +17,8 @@ eachIn low high f = eachFrom low (suc high - low) f
 unfoldable pub eachOf : {A : Type 0} → List A → (A → Bool) → Bool
 eachOf [] f = true
 eachOf (x ∷ xs) f = f x && eachOf xs f
+
+-- A list so many times.
+unfoldable pub times : {A : Type 0} → ℕ → List A → List A
+times zero xs = []
+times (suc n) xs = xs ++ times n xs

@@ -1,14 +1,14 @@
 -- 01, "Card file and session" and "The step maker".
 use Prim.Native.Nat.{ℕ, _+_, _/_, _%_}
 use mathlib.Core.Bool.{true, false, _&&_}
-use mathlib.Core.List.{List, [], _∷_}
+use mathlib.Core.List.{List, [], _∷_, _++_}
 use lib.Dec.{eqb}
 use lib.ListN.{getD, replicate, set}
 use Rattle.rules.specs.Card.{triesLeft}
 use Rattle.rules.specs.Maker.{reset, walk, show, program, blow, zerosBefore, open-card, walkRefusal, openRefusal}
 use Rattle.rules.specs.CaseForms.{L1, L2, code, key, sample, cardFile, session, laidOut, sameBytes}
 use Rattle.rules.specs.CaseForms.{Case, OpensCard, OpensSession, Takes, Unmade, Prints, Claims}
-use Rattle.rules.specs.CaseRanges.{eachIn}
+use Rattle.rules.specs.CaseRanges.{eachIn, times}
 
 -- Each check, before each of those after it. A file is given by its first count, second count, fuse byte, third count and length.
 unfoldable pub fileCases : List Case
@@ -82,7 +82,7 @@ triesCases =
 
 -- "From idle .. back to idle, FUS kept": each act step by step, and "first the most significant".
 unfoldable pub actCases : List Case
-unfolding reset walk show program blow zerosBefore sameBytes eachIn
+unfolding reset walk show program blow zerosBefore open-card times sameBytes eachIn
 actCases =
     Claims (sameBytes (reset L2) (19 ∷ 17 ∷ []) && sameBytes (reset L1) (51 ∷ 49 ∷ [])) ∷
     Claims (sameBytes (walk L2 2) (21 ∷ 17 ∷ 21 ∷ 17 ∷ []) && sameBytes (walk L1 1) (53 ∷ 49 ∷ [])) ∷
@@ -95,6 +95,20 @@ actCases =
     -- "RST up, program 0, RST down"
     Claims (sameBytes (blow L2) (19 ∷ 27 ∷ 11 ∷ 15 ∷ 7 ∷ 23 ∷ 19 ∷ 17 ∷ [])) ∷
     Claims (sameBytes (blow L1) (51 ∷ 59 ∷ 43 ∷ 47 ∷ 39 ∷ 55 ∷ 51 ∷ 49 ∷ [])) ∷
+    -- "reset, walk 80, show, walk k, write, erase": of code 0xff00, with no 0 and with two before the first 1.
+    Claims
+    (sameBytes (open-card L2 0xff00 0xff)
+    (19 ∷ 17 ∷
+    (times 80 (21 ∷ 17 ∷ []) ++
+    (times 8 (17 ∷ 21 ∷ 17 ∷ []) ++
+    (times 8 (1 ∷ 5 ∷ 1 ∷ []) ++ (17 ∷ 25 ∷ 9 ∷ 13 ∷ 5 ∷ 21 ∷ 17 ∷ 25 ∷ 25 ∷ 29 ∷ 21 ∷ 21 ∷ 17 ∷ [])))))) ∷
+    Claims
+    (sameBytes (open-card L1 0xff00 0x3f)
+    (51 ∷ 49 ∷
+    (times 80 (53 ∷ 49 ∷ []) ++
+    (times 8 (49 ∷ 53 ∷ 49 ∷ []) ++
+    (times 8 (33 ∷ 37 ∷ 33 ∷ []) ++
+    (49 ∷ 53 ∷ 49 ∷ 53 ∷ 49 ∷ 57 ∷ 41 ∷ 45 ∷ 37 ∷ 53 ∷ 49 ∷ 57 ∷ 57 ∷ 61 ∷ 53 ∷ 53 ∷ 49 ∷ [])))))) ∷
     -- "k is the number of zeros before the first one in that byte"
     Claims
     (eachIn 128 255 (λ b. eqb (zerosBefore 8 b) 0) &&
