@@ -2,7 +2,8 @@
 
 use crate::chance::Chance;
 use crate::found::Found;
-use crate::reached::{Event, Reached};
+use crate::kinds::Kind;
+use crate::reached::Reached;
 
 const UNTOUCHED: u8 = 165;
 
@@ -71,7 +72,7 @@ fn any_act(chance: &mut Chance) -> Act {
 
 /// One act into a buffer of about its length: the count or the refusal, and
 /// every byte of the buffer.
-pub fn act(chance: &mut Chance, reached: &mut Reached) -> Option<Found> {
+pub fn act(chance: &mut Chance, reached: &mut Reached) -> Result<(), Found> {
     let act = any_act(chance);
     let fus = chance.one_in(2);
     let need = by_model(act, fus, &mut [0; 4096]).unwrap_or(8);
@@ -86,7 +87,7 @@ pub fn act(chance: &mut Chance, reached: &mut Reached) -> Option<Found> {
     let made = by_card(act, fus, &mut out);
     let expected = by_model(act, fus, &mut model_out);
     if made != expected || out != model_out {
-        return Some(Found::Other(format!(
+        return Err(Found::Other(format!(
             "{act:?}, FUS {fus}, room for {room} steps\ncard:  {made:?}\nmodel: {expected:?}\n\
              the buffers {}",
             if out == model_out {
@@ -96,17 +97,20 @@ pub fn act(chance: &mut Chance, reached: &mut Reached) -> Option<Found> {
             },
         )));
     }
-    reached.note(match (made, act) {
-        (Err(21), _) => Event::Act21,
-        (Err(22), _) => Event::Act22,
-        (Err(_), _) => Event::Act23,
-        (_, Act::Reset) => Event::ActReset,
-        (_, Act::Walk(_)) => Event::ActWalk,
-        (_, Act::Show16(_)) => Event::ActShow16,
-        (_, Act::Show32(_)) => Event::ActShow32,
-        (_, Act::Program(_)) => Event::ActProgram,
-        (_, Act::Blow) => Event::ActBlow,
-        (_, Act::Open(..)) => Event::ActOpen,
-    });
-    None
+    let index = match act {
+        Act::Reset => 0,
+        Act::Walk(_) => 1,
+        Act::Show16(_) => 2,
+        Act::Show32(_) => 3,
+        Act::Program(_) => 4,
+        Act::Blow => 5,
+        Act::Open(..) => 6,
+    };
+    let how = match made {
+        Ok(_) => 0,
+        Err(22) => 1,
+        Err(_) => 2,
+    };
+    reached.note(Kind::Act, [index, how]);
+    Ok(())
 }

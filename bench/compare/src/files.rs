@@ -2,9 +2,13 @@
 
 use crate::chance::Chance;
 use crate::found::Found;
-use crate::reached::{Event, Reached};
-use crate::steps::{self, Differs};
+use crate::kinds::Kind;
+use crate::reached::Reached;
+use crate::reader;
+use crate::seen::{self, Side};
+use crate::steps::Differs;
 use crate::waveform::{self, Case};
+use model::{Card, BYTES, MOST_STEPS};
 use std::fmt::Write;
 
 const UNTOUCHED: u8 = 165;
@@ -25,7 +29,7 @@ fn session_of(case: &Case) -> Vec<u8> {
 
 /// A session of what a reader does, of at most so many steps.
 pub fn session(chance: &mut Chance, most: usize) -> Vec<u8> {
-    session_of(&waveform::reader(chance, true, most))
+    session_of(&reader::reader(chance, true, most))
 }
 
 /// Up to two faults, among counts, fuse byte and length.
@@ -33,9 +37,10 @@ pub fn damage(chance: &mut Chance, bytes: &mut Vec<u8>) {
     for _ in 0..chance.within(1, 2) {
         match chance.below(5) {
             0 => {
-                let length = match chance.below(3) {
+                let length = match chance.below(4) {
                     0 => chance.below(182),
                     1 => chance.within(176, 183),
+                    2 => chance.pick(&[0, 178, 179, 180]),
                     _ => bytes.len().saturating_sub(chance.within(1, 3)),
                 };
                 bytes.truncate(length);
@@ -133,44 +138,115 @@ fn case_of(bytes: &[u8]) -> Option<Case> {
     })
 }
 
-/// What a session reaches, up to its first refused step.
-pub fn note_session(bytes: &[u8], reached: &mut Reached) {
-    let mut memory = [0; zhavdurgon::IMAGE_BYTES];
-    match zhavdurgon::open_session(bytes, &mut memory) {
-        Err(number) => note(reached, number),
-        Ok(_) => reached.note(Event::SessionFile),
+/// What a session reaches by the model, up to its first refused step.
+pub fn note_session(reached: &mut Reached, bytes: &[u8]) {
+    let Some((memory, fuses)) = note_opened(reached, bytes) else {
+        return;
+    };
+    let mut card = Card::new(memory, fuses);
+    for &step in model::step_section(bytes) {
+        let before = card;
+        if let Err(number) = card.step(step) {
+            seen::refused(reached, before.volatile, step, number);
+            break;
+        }
+        seen::step(reached, side(&before), side(&card));
     }
-    if let Some(mut case) = case_of(bytes) {
-        let mut answers = vec![0; case.steps.len()];
-        let ran = zhavdurgon::run(
-            &mut memory,
-            case.fuses,
-            case.start,
-            &case.steps,
-            &mut answers,
-        );
-        case.steps.truncate(ran.done + 1);
-        steps::single_steps(&case, Some(reached));
+    reached.note(Kind::Left, [card.memory[12].count_ones() as usize]);
+}
+
+/// How a session is opened, and with what.
+fn note_opened(reached: &mut Reached, bytes: &[u8]) -> Option<([u8; BYTES], u8)> {
+    let mut memory = [0; BYTES];
+    match model::open_session(bytes, &mut memory) {
+        Err(number) => {
+            note_fault(reached, bytes, number);
+            None
+        }
+        Ok((fuses, count)) => {
+            let given = usize::from(count > 0) + usize::from(count == MOST_STEPS);
+            reached.note(Kind::Given, [given]);
+            Some((memory, fuses))
+        }
     }
 }
 
-fn note(reached: &mut Reached, number: u8) {
-    use Event::*;
-    reached.note(match number {
-        10 => File10,
-        11 => File11,
-        12 => File12,
-        13 => File13,
-        14 => File14,
-        15 => File15,
-        16 => File16,
-        _ => File17,
-    });
+fn side(card: &Card) -> Side<'_> {
+    Side {
+        memory: &card.memory,
+        fuses: card.fuses,
+        volatile: card.volatile,
+    }
+}
+
+/// What a session says of itself, 0 where it is too short to.
+struct Head {
+    first: usize,
+    second: usize,
+    fuses: u8,
+    given: usize,
+    /// The steps that are there.
+    there: usize,
+}
+
+fn head_of(bytes: &[u8]) -> Head {
+    let count = |at: usize| match bytes.get(at..at + 2) {
+        Some(count) => usize::from(u16::from_le_bytes([count[0], count[1]])),
+        None => 0,
+    };
+    Head {
+        first: count(0),
+        second: count(176),
+        fuses: bytes.get(178).copied().unwrap_or(0),
+        given: count(179),
+        there: bytes.len().saturating_sub(181),
+    }
+}
+
+/// What is wrong with a session, and what else would be.
+fn note_fault(reached: &mut Reached, bytes: &[u8], number: u8) {
+    let (length, head) = (bytes.len(), head_of(bytes));
+    let faults = [
+        (11, length == 0),
+        (11, length == 178),
+        (12, head.first & 255 != 174 && head.first < 256),
+        (12, head.first & 255 == 174),
+        (13, head.second & 255 != 1 && head.second < 256),
+        (13, head.second & 255 == 1),
+        (14, head.fuses == 8),
+        (14, head.fuses > 8),
+        (15, length == 179),
+        (15, length == 180),
+        (16, head.given == 4097 && head.there == 4097),
+        (16, head.given > 4097),
+        (17, head.there + 1 == head.given),
+        (17, head.there == head.given + 1),
+    ];
+    for (index, &(of, holds)) in faults.iter().enumerate() {
+        reached.note_if(of == number && holds, Kind::Fault, [index]);
+    }
+    let others = [
+        (12, length > 1 && head.first != 174),
+        (13, length > 177 && head.second != 1),
+        (14, head.fuses > 7),
+        (15, length < 181),
+        (16, head.given > 4096),
+        (17, length > 180 && head.there != head.given),
+    ];
+    for &(other, holds) in &others {
+        let case = [usize::from(number) - 11, usize::from(other) - 11];
+        reached.note_if(number < other && holds, Kind::Faults, case);
+    }
+}
+
+/// How a file was opened, as a value of its kind.
+fn opened(refusal: Option<u8>) -> usize {
+    refusal.map_or(0, |number| usize::from(number) - 9)
 }
 
 /// One file through both openers, and its text: the answers, the steps as a part
 /// of the file and every byte of the lent buffer.
-pub fn file(chance: &mut Chance, reached: &mut Reached) -> Option<Found> {
+pub fn file(chance: &mut Chance, reached: &mut Reached) -> Result<(), Found> {
     let bytes = any_file(chance);
     let room = if chance.one_in(8) {
         chance.pick(&[0, 1, 173, 175, 348])
@@ -183,7 +259,7 @@ pub fn file(chance: &mut Chance, reached: &mut Reached) -> Option<Found> {
     let card = zhavdurgon::open_card(&bytes, &mut image);
     let expected = model::open_card_file(&bytes, &mut model_image);
     if card != expected || image != model_image {
-        return Some(Found::Other(format!(
+        return Err(Found::Other(format!(
             "a card file of {} bytes, room for {room}: card {card:?}, model {expected:?}\n{bytes:?}",
             bytes.len(),
         )));
@@ -203,7 +279,7 @@ pub fn file(chance: &mut Chance, reached: &mut Reached) -> Option<Found> {
         _ => false,
     };
     if !same || image != model_image {
-        return Some(Found::Other(format!(
+        return Err(Found::Other(format!(
             "a session of {} bytes, room for {room}: card {session:?}, model {expected_session:?}\n\
              {bytes:?}",
             bytes.len(),
@@ -213,20 +289,16 @@ pub fn file(chance: &mut Chance, reached: &mut Reached) -> Option<Found> {
     if text_by_card(&bytes) != model::session(&bytes) {
         let case = case_of(&bytes);
         let differs = case.as_ref().and_then(text);
-        return Some(match (case, differs) {
+        return Err(match (case, differs) {
             (Some(case), Some(differs)) => Found::Text { case, differs },
             _ => Found::Other(format!("the text of a session: {bytes:?}")),
         });
     }
 
-    match card {
-        Ok(_) => reached.note(Event::CardFile),
-        Err(number) => note(reached, number),
+    reached.note(Kind::CardFile, [opened(card.err())]);
+    reached.note(Kind::SessionFile, [opened(session.err())]);
+    if room == 174 {
+        note_opened(reached, &bytes);
     }
-    match session {
-        Ok(_) => reached.note(Event::SessionFile),
-        Err(number) => note(reached, number),
-    }
-    reached.note(Event::Text);
-    None
+    Ok(())
 }

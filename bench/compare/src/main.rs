@@ -11,44 +11,63 @@ mod acts;
 mod chance;
 mod files;
 mod found;
-#[cfg(feature = "mutate")]
+mod kinds;
 mod mutants;
 mod reached;
+mod reader;
 mod record;
+mod seen;
 mod shrink;
 mod steps;
+mod values;
 mod waveform;
 mod words;
+mod zones;
 
 use chance::Chance;
 use found::Found;
+use kinds::ALL;
 use reached::Reached;
 use std::process::ExitCode;
 use std::time::Instant;
+use waveform::Case;
+
+/// Cases on the brink of an effect, in a round.
+const BRINKS: usize = 40;
+
+/// Single steps of a case, to be followed by its runs.
+fn single_steps(case: Case, reached: &mut Reached) -> Result<Case, Found> {
+    match steps::single_steps(&case, Some(reached)) {
+        Some(differs) => Err(Found::Steps { case, differs }),
+        None => Ok(case),
+    }
+}
 
 /// One round of everything, from its own seed.
-fn round(seed: u64, reached: &mut Reached) -> Option<Found> {
+fn round(seed: u64, reached: &mut Reached) -> Result<(), Found> {
     let mut chance = Chance::new(seed);
     let chance = &mut chance;
-    let case = match chance.weighted(&[4, 40, 400, 100, 1]) {
-        0 => waveform::reader(chance, true, usize::MAX),
-        1 => waveform::reader(chance, false, 1000),
+    for _ in 0..BRINKS {
+        single_steps(waveform::brink(chance), reached)?;
+    }
+    let case = match chance.weighted(&[4, 40, 400, 100, 2]) {
+        0 => reader::reader(chance, true, usize::MAX),
+        1 => reader::reader(chance, false, 1000),
         2 => waveform::chance_steps(chance),
         3 => waveform::refused(chance),
         _ => waveform::long(chance),
     };
-    if let Some(differs) = steps::single_steps(&case, Some(reached)) {
-        return Some(Found::Steps { case, differs });
-    }
+    let case = single_steps(case, reached)?;
     let seed = chance.next();
     if let Some(differs) = steps::runs(&case, &mut Chance::new(seed), Some(reached)) {
-        return Some(Found::Runs {
+        return Err(Found::Runs {
             case,
             seed,
             differs,
         });
     }
-    acts::act(chance, reached).or_else(|| files::file(chance, reached))
+    acts::act(chance, reached)?;
+    files::file(chance, reached)
 }
 
 fn compare(steps: u64, seed: u64) -> ExitCode {
@@ -58,19 +77,21 @@ fn compare(steps: u64, seed: u64) -> ExitCode {
     let mut seeds = Chance::new(seed);
     while reached.steps < steps {
         let seed = seeds.next();
-        if let Some(found) = round(seed, &mut reached) {
+        if let Err(found) = round(seed, &mut reached) {
             println!("round {seed}");
             found.show();
             return ExitCode::FAILURE;
         }
     }
-    reached.print();
-    println!("no difference, in {:.1} s", start.elapsed().as_secs_f64());
-    let missing = reached.missing();
+    println!("{:>12}  single steps compared", reached.steps);
+    println!("{:>12}  steps compared in runs", reached.run_steps);
+    reached.print(ALL);
+    let missing = reached.missing(ALL);
     if steps >= 1_000_000 && !missing.is_empty() {
-        println!("not reached: {missing:?}");
+        println!("not reached: {missing:#?}");
         return ExitCode::FAILURE;
     }
+    println!("no difference, in {:.1} s", start.elapsed().as_secs_f64());
     ExitCode::SUCCESS
 }
 
@@ -78,7 +99,7 @@ fn record(file: &str, sessions: usize, seed: u64) -> ExitCode {
     let (bytes, reached) = record::records(&mut Chance::new(seed), sessions);
     match std::fs::write(file, &bytes) {
         Ok(()) => {
-            reached.print_reached();
+            reached.print(kinds::SESSIONS);
             println!("seed {seed}: {sessions} sessions, {} bytes", bytes.len());
             ExitCode::SUCCESS
         }
@@ -89,19 +110,8 @@ fn record(file: &str, sessions: usize, seed: u64) -> ExitCode {
     }
 }
 
-#[cfg(not(feature = "mutate"))]
-fn mutants(_seconds: u64) -> ExitCode {
-    eprintln!("--mutants needs the feature mutate");
-    ExitCode::FAILURE
-}
-
-#[cfg(feature = "mutate")]
-fn mutants(seconds: u64) -> ExitCode {
-    mutants::all(seconds)
-}
-
 fn main() -> ExitCode {
-    let mut wanted = (10_000_000, 1, false, 10, None, 300);
+    let mut wanted = (10_000_000, 1, false, 10, None, 400);
     let mut words = std::env::args().skip(1);
     while let Some(word) = words.next() {
         let mut number = || words.next().and_then(|word| word.parse().ok());
@@ -130,7 +140,7 @@ fn main() -> ExitCode {
     let (steps, seed, by_mutants, seconds, file, sessions) = wanted;
     match file {
         Some(file) => record(&file, sessions as usize, seed),
-        None if by_mutants => mutants(seconds),
+        None if by_mutants => mutants::all(seconds),
         None => compare(steps, seed),
     }
 }

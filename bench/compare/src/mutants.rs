@@ -14,7 +14,7 @@ fn noticed(seed: u64, most: Duration) -> Option<(Found, u64, Duration)> {
     let mut reached = Reached::new();
     let mut seeds = Chance::new(seed);
     while start.elapsed() < most {
-        if let Some(found) = round(seeds.next(), &mut reached) {
+        if let Err(found) = round(seeds.next(), &mut reached) {
             return Some((found, reached.steps, start.elapsed()));
         }
     }

@@ -18,7 +18,7 @@ pub fn records(chance: &mut Chance, count: usize) -> (Vec<u8>, Reached) {
         if chance.one_in(8) {
             files::damage(chance, &mut session);
         }
-        files::note_session(&session, &mut reached);
+        files::note_session(&mut reached, &session);
         let text = model::session(&session);
         for part in [session, text] {
             file.extend((part.len() as u16).to_le_bytes());

@@ -1,7 +1,9 @@
 //! Single steps and runs, on the card and on the model.
 
 use crate::chance::Chance;
-use crate::reached::{Event, Reached, Side};
+use crate::kinds::Kind;
+use crate::reached::Reached;
+use crate::seen::{self, Side};
 use crate::waveform::Case;
 use crate::words::{of_model, to_model, Words};
 use zhavdurgon::{Ran, Stepped};
@@ -86,22 +88,22 @@ fn same_tries(memory: &[u8]) -> bool {
     }
 }
 
-fn note(reached: &mut Reached, before: (&[u8], u8, Words), after: (&[u8], Stepped)) {
+fn note(reached: &mut Reached, before: (&[u8], u8, Words), step: u8, after: (&[u8], Stepped)) {
     reached.steps += 1;
-    match after.1.answer {
-        Err(number) => {
-            reached.note_refused(number);
-            if number == 9 {
-                reached.note_made_up(before.2);
-            }
-        }
-        Ok(pin) => {
-            let (Some(was), Some(is)) = (to_model(before.2), to_model(after.1.volatile)) else {
-                return;
-            };
+    let (memory, fuses, volatile) = before;
+    match (
+        after.1.answer,
+        to_model(volatile),
+        to_model(after.1.volatile),
+    ) {
+        (Err(9), ..) => seen::made_up(reached, volatile),
+        (Err(10), ..) => reached.note(Kind::RefusedBefore, [0]),
+        (Err(14), ..) => reached.note(Kind::RefusedBefore, [1]),
+        (Err(number), Some(volatile), _) => seen::refused(reached, volatile, step, number),
+        (Ok(_), Some(was), Some(is)) => {
             let before = Side {
-                memory: before.0,
-                fuses: before.1,
+                memory,
+                fuses,
                 volatile: was,
             };
             let after = Side {
@@ -109,8 +111,9 @@ fn note(reached: &mut Reached, before: (&[u8], u8, Words), after: (&[u8], Steppe
                 fuses: after.1.fuses,
                 volatile: is,
             };
-            reached.note_step(before, after, pin);
+            seen::step(reached, before, after);
         }
+        _ => unreachable!("a state that 9 lets pass has the model's fields"),
     }
 }
 
@@ -159,7 +162,7 @@ pub fn single_steps(case: &Case, mut reached: Option<&mut Reached>) -> Option<Di
             return Some(Differs { at, text });
         }
         if let Some(reached) = reached.as_deref_mut() {
-            note(reached, (&before, fuses, volatile), (&card, told));
+            note(reached, (&before, fuses, volatile), step, (&card, told));
         }
         if before != card {
             before.copy_from_slice(&card);
@@ -172,23 +175,26 @@ pub fn single_steps(case: &Case, mut reached: Option<&mut Reached>) -> Option<Di
             text: "the tries left differ".into(),
         });
     }
+    if let Some(reached) = reached {
+        reached.note(Kind::Left, [zhavdurgon::tries_left(&card) as usize]);
+    }
     None
 }
 
 fn note_run(reached: &mut Reached, count: usize, ran: Ran) {
-    use Event::*;
     reached.run_steps += ran.done as u64;
-    match ran.refusal {
-        0 if count == 0 => reached.note(RunEmpty),
-        0 if count == 4096 => reached.note(Run4096),
-        0 => reached.note(Run),
-        1..=7 => reached.note(RunRefused),
-        9 => reached.note(Run9),
-        10 => reached.note(Run10),
-        14 => reached.note(Run14),
-        18 => reached.note(Run18),
-        _ => reached.note(Run19),
-    }
+    let how = match (ran.refusal, count) {
+        (0, 0) => 2,
+        (0, 4096) => 1,
+        (0, _) => 0,
+        (number @ 1..=7, _) => 2 + usize::from(number),
+        (9, _) => 10,
+        (10, _) => 11,
+        (14, _) => 12,
+        (18, _) => 13,
+        _ => 14,
+    };
+    reached.note(Kind::Ran, [how]);
 }
 
 /// The steps in runs, each against the model's and against single steps, a
@@ -205,9 +211,9 @@ pub fn runs(
     let mut at = 0;
     loop {
         let rest = &case.steps[at..];
-        let count = match chance.below(3) {
-            0 => rest.len(),
-            1 => rest.len().min(chance.below(100)),
+        let count = match chance.below(4) {
+            0 | 1 => rest.len(),
+            2 => rest.len().min(chance.below(100)),
             _ => rest.len().min(chance.within(1, 4096)),
         };
         let steps = &rest[..count];
