@@ -20,7 +20,7 @@ fn card_file(memory: &[u8], fuses: u8) -> Vec<u8> {
     bytes
 }
 
-fn session_of(case: &Case) -> Vec<u8> {
+pub fn session_of(case: &Case) -> Vec<u8> {
     let mut bytes = card_file(&case.memory, case.fuses);
     bytes.extend((case.steps.len() as u16).to_le_bytes());
     bytes.extend(&case.steps);
@@ -67,6 +67,17 @@ fn long_session(chance: &mut Chance) -> Vec<u8> {
     bytes.extend((count as u16).to_le_bytes());
     let steps = if chance.one_in(3) { count + 1 } else { count };
     bytes.resize(bytes.len() + steps, 16);
+    bytes
+}
+
+/// A short session with up to two faults, or one of about 4,096 steps.
+pub fn any_session(chance: &mut Chance) -> Vec<u8> {
+    if chance.one_in(40) {
+        return long_session(chance);
+    }
+    let most = chance.below(3);
+    let mut bytes = session(chance, most);
+    damage(chance, &mut bytes);
     bytes
 }
 

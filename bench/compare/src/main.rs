@@ -11,6 +11,8 @@ mod acts;
 mod chance;
 mod files;
 mod found;
+mod goals;
+mod journey;
 mod kinds;
 mod mutants;
 mod reached;
@@ -96,18 +98,19 @@ fn compare(steps: u64, seed: u64) -> ExitCode {
 }
 
 fn record(file: &str, sessions: usize, seed: u64) -> ExitCode {
-    let (bytes, reached) = record::records(&mut Chance::new(seed), sessions);
-    match std::fs::write(file, &bytes) {
-        Ok(()) => {
-            reached.print(kinds::SESSIONS);
-            println!("seed {seed}: {sessions} sessions, {} bytes", bytes.len());
-            ExitCode::SUCCESS
-        }
-        Err(error) => {
-            eprintln!("{file}: {error}");
-            ExitCode::FAILURE
-        }
+    let made = record::record(&mut Chance::new(seed), sessions);
+    made.reached.print(kinds::SESSIONS);
+    if !made.missed.is_empty() {
+        println!("not reached: {:#?}", made.missed);
+        return ExitCode::FAILURE;
     }
+    if let Err(error) = std::fs::write(file, &made.file) {
+        eprintln!("{file}: {error}");
+        return ExitCode::FAILURE;
+    }
+    let (sessions, bytes) = (made.sessions, made.file.len());
+    println!("seed {seed}: {sessions} sessions, {bytes} bytes, to {file}");
+    ExitCode::SUCCESS
 }
 
 fn main() -> ExitCode {

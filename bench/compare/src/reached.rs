@@ -34,6 +34,13 @@ impl Reached {
         self.counts[event.0 as usize][event.1]
     }
 
+    /// What was reached.
+    pub fn events(&self) -> impl Iterator<Item = Event> + '_ {
+        let of_kind = |kind: Kind| (0..kind.count()).map(move |number| (kind, number));
+        let all = Kind::all().flat_map(of_kind);
+        all.filter(|&event| self.count(event) > 0)
+    }
+
     /// In words, what was not reached of what these can reach.
     pub fn missing(&self, by: &[By]) -> Vec<String> {
         let events = Kind::all().flat_map(|kind| kind.events(by));
