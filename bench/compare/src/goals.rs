@@ -100,22 +100,13 @@ impl Goal {
 
     /// What a journey to it is like.
     fn plan(self, chance: &mut Chance) -> Plan {
-        let any = Plan::default();
-        let Goal::Event(kind, number) = self else {
-            return self.plan_to_show();
+        let (kind, number) = match self {
+            Goal::Event(kind, number) => (kind, number),
+            Goal::Wrong(number) => return plan_to_show(number),
         };
         match (kind, &kind.case(number)[..]) {
-            (Kind::Key, &[bit, WRONG]) => Plan {
-                key: Some(Odd::Wrong(bit)),
-                stop: Some(1232),
-                ..any
-            },
-            (Kind::Key, &[bit, BARRED]) => Plan {
-                fuses: (ISS, ISS),
-                key: Some(Odd::FusHigh(bit)),
-                stop: Some(1232),
-                ..any
-            },
+            (Kind::Key, &[bit, WRONG]) => with_key(Odd::Wrong(bit)),
+            (Kind::Key, &[bit, BARRED]) => with_key(Odd::FusHigh(bit)),
             (Kind::Count, &[place, _, key, _, ec_en, sv]) => in_ec(chance, place, key, ec_en, sv),
             (Kind::EraseEc, &[place, _, sv, e1, ec_en]) => in_ec(chance, place, e1, ec_en, sv),
             (Kind::RstHigh, &[zone, ..]) => Plan {
@@ -141,34 +132,31 @@ impl Goal {
                 let last = [1360, 1360, 1232, 1392, 1392, 1408, 1481, 1504][what];
                 open_to(last, Leave::WithoutVcc)
             }
-            _ => any,
-        }
-    }
-
-    /// What a journey that shows a wrong behaviour is like, if there are but few.
-    fn plan_to_show(self) -> Plan {
-        let Goal::Wrong(number) = self else {
-            return Plan::default();
-        };
-        let to_ec = |ec_en: u8, open: bool, stop: u16| Plan {
-            fuses: (EC_EN, EC_EN * ec_en),
-            open: Some(open),
-            key: Some(Odd::Nothing),
-            stop: Some(stop),
-            last: Some((1360, Leave::WithRst)),
-        };
-        match number {
-            8 | 21 | 48 => to_ec(1, true, 1232),
-            10 => to_ec(0, true, 1240),
-            52 => to_ec(0, false, 1232),
-            20 | 29 => open_to(1503, Leave::WithRst),
-            50 | 63 | 66 => open_to(1504, Leave::WithRst),
-            49 => Plan {
-                stop: Some(1504),
-                ..open_to(1505, Leave::WithRst)
-            },
             _ => Plan::default(),
         }
+    }
+}
+
+/// What a journey that shows a wrong behaviour is like, where few do.
+fn plan_to_show(number: u32) -> Plan {
+    let to_ec = |ec_en: u8, open: bool, stop: u16| Plan {
+        fuses: (EC_EN, EC_EN * ec_en),
+        open: Some(open),
+        key: Some(Odd::Nothing),
+        stop: Some(stop),
+        last: Some((1360, Leave::WithRst)),
+    };
+    match number {
+        8 | 21 | 48 => to_ec(1, true, 1232),
+        10 => to_ec(0, true, 1240),
+        52 => to_ec(0, false, 1232),
+        20 | 29 => open_to(1503, Leave::WithRst),
+        50 | 63 | 66 => open_to(1504, Leave::WithRst),
+        49 => Plan {
+            stop: Some(1504),
+            ..open_to(1505, Leave::WithRst)
+        },
+        _ => Plan::default(),
     }
 }
 
@@ -207,6 +195,17 @@ fn open_to(last: u16, leave: Leave) -> Plan {
         fuses: (ALL, ALL),
         open: Some(true),
         last: Some((last, leave)),
+        ..Plan::default()
+    }
+}
+
+/// To the end of the key, of which one bit is odd.
+fn with_key(odd: Odd) -> Plan {
+    let level_1 = matches!(odd, Odd::FusHigh(_));
+    Plan {
+        fuses: if level_1 { (ISS, ISS) } else { (0, 0) },
+        key: Some(odd),
+        stop: Some(1232),
         ..Plan::default()
     }
 }
