@@ -1,3 +1,4 @@
+pub mod AgainstCases
 pub mod Answers
 pub mod Refusals
 pub mod Determined
