@@ -1,3 +1,4 @@
+pub mod AgainstCases
 pub mod Answers
 mod Acting
 mod Placing

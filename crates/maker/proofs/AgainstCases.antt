@@ -1,0 +1,33 @@
+-- 01's cases of the step maker, computed from the definitions. Assumes nothing.
+use mathlib.Core.Path.{refl}
+use Rattle.memory.specs.Image.{digit}
+use Rattle.rules.specs.Maker.{reset, walk, show, program, blow, open-card, walkRefusal, openRefusal}
+use Rattle.maker.specs.Act.{numberOf, countOf, made, inBuffer}
+use Rattle.maker.specs.Placed.{pulse, shownBit}
+use Rattle.maker.specs.Cases.{Acts-make, Answers-told, Parts-made}
+
+pub acts-make : Acts-make
+unfolding digit reset walk program blow open-card walkRefusal openRefusal made inBuffer
+acts-make = (
+  record { answer = refl; bytes = refl },
+  record { answer = refl; bytes = refl },
+  record { answer = refl; bytes = refl },
+  record { answer = refl; bytes = refl },
+  record { answer = refl; bytes = refl },
+  record { answer = refl; bytes = refl },
+  record { answer = refl; bytes = refl },
+  record { answer = refl; bytes = refl },
+  record { answer = refl; bytes = refl },
+  record { answer = refl; bytes = refl },
+  record { answer = refl; bytes = refl },
+  record { answer = refl; bytes = refl },
+  record { answer = refl; bytes = refl },
+)
+
+pub answers-told : Answers-told
+unfolding numberOf countOf
+answers-told = (refl, refl, refl, refl, refl)
+
+pub parts-made : Parts-made
+unfolding digit reset walk show program pulse shownBit
+parts-made = (record { place = refl; bytes = refl }, refl, refl, refl, refl, refl, refl, refl, refl)
