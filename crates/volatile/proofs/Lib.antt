@@ -1,3 +1,4 @@
+pub mod AgainstCases
 pub mod Between
 pub mod Packing
 pub mod Edges

@@ -1,1 +1,2 @@
 pub mod Packed
+pub mod Cases
