@@ -1,3 +1,4 @@
+pub mod AgainstCases
 pub mod Fuses
 pub mod HandedOn
 pub mod Turned
