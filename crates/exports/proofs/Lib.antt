@@ -1,2 +1,3 @@
+pub mod AgainstCases
 mod Determined
 mod Shown
