@@ -1,1 +1,2 @@
+pub mod AgainstCases
 pub mod Laws

@@ -1,1 +1,2 @@
 pub mod FreshRun
+pub mod Cases
