@@ -1,2 +1,3 @@
+pub mod AgainstCases
 mod Laws
 pub mod Longer
