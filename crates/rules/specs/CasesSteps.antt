@@ -16,6 +16,10 @@ use Rattle.rules.specs.ClaimsSteps.{neverRead, movesOn, arrives}
 abbrev allSet : ℕ
 allSet = SV + P1 + R1 + E1 + Match
 
+-- Latched data 1, and programming under way: arriving leaves both.
+abbrev busy : ℕ
+busy = Latch + Programming
+
 unfoldable pub lineCases : List Case
 unfolding oneStep cardAt sample idleAt reset walks zeros
 lineCases =
@@ -115,7 +119,10 @@ arrivalCases =
     Claims
     (eachIn 0 1519
     (arrives ones 5 Match ((0, none) ∷ (104, none) ∷ (176, P1 + Match) ∷ (177, R1 + Match) ∷ (1232, E1 + Match) ∷ (1360, none) ∷ []))) ∷
-    Claims (eachOf borders (arrives ones 7 allSet ((0, SV + P1 + R1) ∷ (104, SV + P1 + R1 + E1) ∷ (1360, SV + P1 + R1 + E1) ∷ []))) ∷
+    Claims
+    (eachOf borders
+    (arrives ones 7 (allSet + busy)
+    ((0, SV + P1 + R1 + busy) ∷ (104, SV + P1 + R1 + E1 + busy) ∷ (1360, SV + P1 + R1 + E1 + busy) ∷ []))) ∷
     Claims (eachOf borders (arrives zeros 5 Match ((0, none) ∷ (104, none) ∷ (1232, E1 + Match) ∷ (1360, none) ∷ []))) ∷
     Claims (eachOf borders (arrives zeros 7 Match ((0, none) ∷ (104, none) ∷ (1360, none) ∷ []))) ∷
     Claims (eachOf borders (arrives ones 5 none ((176, P1) ∷ (177, R1) ∷ []))) ∷
