@@ -9,21 +9,11 @@ use mathlib.Core.List.{List, [], _∷_}
 use lib.ListN.{take, replicate, set}
 use Rattle.rules.specs.declared.Answer.{Answer}
 use Rattle.rules.specs.declared.Answer.the-variants.{Pin, Refused}
-use Rattle.rules.specs.CaseForms.{sample}
+use Rattle.rules.specs.CaseForms.{zero, one, released, sample}
 use Rattle.volatile.specs.declared.Volatile.{Volatile}
 use Rattle.volatile.specs.Cases.{Gives, half}
 use Rattle.card.specs.declared.FlagsAnswer.the-variants.{Held, Refused as Barred}
 use Rattle.card.specs.Contracts.{StepAnswered, RunAnswered, flagsOf, flagsNumber, flagsHeld}
-
--- What the pin says: a 0 that is driven, a readable bit that is 1, nothing driven.
-abbrev pub zero : ℕ
-zero = 0
-
-abbrev pub one : ℕ
-one = 1
-
-abbrev pub released : ℕ
-released = 1
 
 -- A card by its image, its fuses and its half.
 abbrev pub Given : Type 0

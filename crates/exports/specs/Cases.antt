@@ -8,10 +8,9 @@ use mathlib.Core.Bool.{true, false}
 use mathlib.Core.List.{List, [], _∷_, _++_}
 use lib.ListN.{take, replicate, set}
 use Rattle.rules.specs.Maker.{reset, walk, walkRefusal}
-use Rattle.rules.specs.CaseForms.{L1, L2, sample, cardFile, session}
+use Rattle.rules.specs.CaseForms.{zero, one, released, L1, L2, sample, cardFile, session}
 use Rattle.volatile.specs.Cases.{Gives, half}
 use Rattle.card.specs.Contracts.{flagsOf}
-use Rattle.card.specs.Cases.{zero, one, released}
 use Rattle.exports.specs.Rendered.{flagBytes, isHigh}
 use Rattle.exports.specs.Told.{StepTold, StepToldAt, RunTold, ActTold, CardTold, SessionTold}
 

@@ -6,7 +6,7 @@ use mathlib.Core.Bool.{true}
 use mathlib.Core.List.{List, [], _∷_, _++_}
 use lib.ListN.{take, set}
 use Rattle.rules.specs.Maker.{reset, walk, open-card}
-use Rattle.rules.specs.CaseForms.{L1, code, sample, session as sessionBytes, endsIn}
+use Rattle.rules.specs.CaseForms.{zero, released, L1, code, sample, session as sessionBytes, endsIn}
 use Rattle.report.specs.Cases.{quoted, caseS-memory, caseS-steps, caseS-text}
 use Rattle.session.specs.Answer.{sessionText}
 
@@ -23,13 +23,7 @@ unfoldable pub reads-the-code : List ℕ
 unfolding open-card reset walk
 reads-the-code = 32 ∷ 48 ∷ 49 ∷ (open-card L1 code 255 ++ (reset L1 ++ walk L1 81))
 
--- What the pin says, as its byte: 48 is `0`.
-abbrev pub zero : ℕ
-zero = 0
-
-abbrev pub released : ℕ
-released = 1
-
+-- An answer of the pin as its byte: 48 is `0`.
 abbrev pub shown : ℕ → ℕ
 shown answer = 48 + answer
 
