@@ -91,6 +91,7 @@ Flags-told =
     (half 17 0 4, Held false false true false) ∷
     (half 17 1232 32, Held false false false true) ∷
     (half 21 85 88, Held false false false false) ∷
+    (half 16 0 0, Held false false false false) ∷
     (half 17 1231 32, Barred 9) ∷
     (half 17 0 128, Barred 9) ∷
     []) ×

@@ -8,15 +8,11 @@ use mathlib.Core.Bool.{true, false}
 use mathlib.Core.List.{List, [], _∷_, _++_}
 use lib.ListN.{take, replicate, set}
 use Rattle.rules.specs.Maker.{reset, walk, walkRefusal}
-use Rattle.rules.specs.CaseForms.{zero, one, released, L1, L2, sample, cardFile, session}
+use Rattle.rules.specs.CaseForms.{zero, one, released, no-answer, L1, L2, sample, cardFile, session}
 use Rattle.volatile.specs.Cases.{Gives, half}
 use Rattle.card.specs.Contracts.{flagsOf}
 use Rattle.exports.specs.Rendered.{flagBytes, isHigh}
 use Rattle.exports.specs.Told.{StepTold, StepToldAt, RunTold, ActTold, CardTold, SessionTold}
-
--- The answer beside a refusal.
-abbrev pub refused : ℕ
-refused = released
 
 abbrev pub Steps-told : Type 0
 Steps-told =
@@ -26,12 +22,12 @@ Steps-told =
     StepTold sample 5 (half 21 96 72) 17 (record { half = half 17 96 65; fuses = 5; answer = zero; refusal = 0 }) (set sample 12 127) ×
     StepTold sample 7 (half 23 1504 9) 19 (record { half = half 19 1504 1; fuses = 3; answer = released; refusal = 0 }) sample ×
     -- 2 and 9: both halves as they came.
-    StepTold sample 5 (half 17 0 0) 22 (record { half = half 17 0 0; fuses = 5; answer = refused; refusal = 2 }) sample ×
-    StepTold sample 5 (half 21 96 200) 17 (record { half = half 21 96 200; fuses = 5; answer = refused; refusal = 9 }) sample ×
+    StepTold sample 5 (half 17 0 0) 22 (record { half = half 17 0 0; fuses = 5; answer = no-answer; refusal = 2 }) sample ×
+    StepTold sample 5 (half 21 96 200) 17 (record { half = half 21 96 200; fuses = 5; answer = no-answer; refusal = 9 }) sample ×
     -- On a half that is lent: the same write, the same blow, 2.
     StepToldAt sample 5 (half 21 96 72) 17 (record { fuses = 5; answer = zero; refusal = 0 }) (half 17 96 65) (set sample 12 127) ×
     StepToldAt sample 7 (half 23 1504 9) 19 (record { fuses = 3; answer = released; refusal = 0 }) (half 19 1504 1) sample ×
-    StepToldAt sample 5 (half 17 0 0) 22 (record { fuses = 5; answer = refused; refusal = 2 }) (half 17 0 0) sample
+    StepToldAt sample 5 (half 17 0 0) 22 (record { fuses = 5; answer = no-answer; refusal = 2 }) (half 17 0 0) sample
 
 abbrev pub Runs-told : Type 0
 Runs-told =

@@ -8,4 +8,4 @@ use Rattle.fresh_run.specs.Cases.{Fresh-runs}
 
 pub fresh-runs : Fresh-runs
 unfolding the-card the-text sample freshRun runText
-fresh-runs = (refl, refl, refl, refl, refl, refl, refl, refl)
+fresh-runs = (refl, refl, refl, refl, refl, refl, refl, refl, refl)

@@ -11,7 +11,8 @@ use Rattle.fresh_run.specs.FreshRun.{freshRun, runText, enough}
 abbrev pub Fresh-runs : Type 0
 Fresh-runs =
     (runText caseS-memory 7 caseS-steps 8 ≡ quoted caseS-text) ×
-    -- "A fresh card has all lines low": VCC and RST at once are two lines. The steps given are those announced.
+    -- "A fresh card has all lines low": RST rises alone; VCC and RST at once are two lines. The steps given are those announced.
+    (runText sample 5 (2 ∷ []) 1 ≡ quoted "done 1 of 1\nrefused 0\n1\nleft 8\n") ×
     (runText sample 5 (3 ∷ []) 2 ≡ quoted "done 0 of 2\nrefused 2\n\nleft 8\n") ×
     (runText sample 5 [] 0 ≡ quoted "done 0 of 0\nrefused 0\n\nleft 8\n") ×
     -- 10 and 14; "Runs of 4,096 go; 4,097 get 18."

@@ -24,6 +24,10 @@ one = 1
 abbrev pub released : ℕ
 released = 1
 
+-- What stands in an answer's place beside a refusal, where a byte is needed.
+abbrev pub no-answer : ℕ
+no-answer = 1
+
 -- What a volatile half holds besides lines and address: a sum of these.
 abbrev pub none : ℕ
 none = 0
@@ -180,7 +184,7 @@ unfoldable pub pins : Answer → List ℕ
 pins (Pin b) = b ∷ []
 pins (Refused k) = []
 
--- When a case holds. A start that 10, 14 or 9 refuses holds in no case but `Refuses`: the runs are checked ones.
+-- When a case holds. The runs and steps are checked ones: a start that 10, 14 or 9 refuses holds only in a case that says so.
 unfoldable pub holds : Case → Bool
 unfolding the-card sameCard endsIn shows sameAnswer pins numberOf flagsRefusal actRefusal triesLeft onesIn memorySection fuseSection stepSection cardRefusal sessionRefusal
 holds (Runs c ns d answers) =

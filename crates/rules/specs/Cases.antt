@@ -12,10 +12,10 @@ use Rattle.rules.specs.Maker.{walk, show, program}
 use Rattle.rules.specs.CaseForms.{none, SV, P1, R1, E1, Match, L1, L2, code, zero, one, released}
 use Rattle.rules.specs.CaseForms.{cardAt, idleAt, ones, zeros, image, sample, cardFile, session}
 use Rattle.rules.specs.CaseForms.{Case, Runs, Refuses, OpensCard, OpensSession, Prints, joined, every, writes, erases, walks, blows}
-use Rattle.rules.specs.CasesSteps.{lineCases, cutCases, arrivalCases, pinCases}
+use Rattle.rules.specs.CasesSteps.{lineCases, startCases, cutCases, arrivalCases, pinCases}
 use Rattle.rules.specs.CasesRights.{zoneCases, eraseCases, imageCases, programCases, operationCases, blockCases, fuseCases}
 use Rattle.rules.specs.CasesMatch.{codeCases, keyCases}
-use Rattle.rules.specs.CasesRefusals.{stepRefusals, orderCases, stateCases, answerCases, bufferCases}
+use Rattle.rules.specs.CasesRefusals.{stepRefusals, orderCases, stateCases, answerCases, runCases, bufferCases}
 use Rattle.rules.specs.CasesFiles.{fileCases, triesCases, actCases, makerCases}
 
 -- "Case S: memory byte 0 is 127, all others 255, fuses 7, steps 16 48 49 53 49 51 49 55".
@@ -72,11 +72,12 @@ edges =
 
 -- The long runs stand last: a wrong version is mostly refused before them.
 unfoldable pub table : List Case
-unfolding joined caseS edges lineCases cutCases arrivalCases pinCases zoneCases eraseCases imageCases programCases operationCases blockCases fuseCases codeCases keyCases stepRefusals orderCases stateCases answerCases bufferCases fileCases triesCases actCases makerCases
+unfolding joined caseS edges lineCases startCases cutCases arrivalCases pinCases zoneCases eraseCases imageCases programCases operationCases blockCases fuseCases codeCases keyCases stepRefusals orderCases stateCases answerCases runCases bufferCases fileCases triesCases actCases makerCases
 table =
     joined
     ((caseS ∷ []) ∷
     lineCases ∷
+    startCases ∷
     cutCases ∷
     pinCases ∷
     zoneCases ∷
@@ -90,6 +91,7 @@ table =
     orderCases ∷
     stateCases ∷
     answerCases ∷
+    runCases ∷
     bufferCases ∷
     fileCases ∷
     triesCases ∷

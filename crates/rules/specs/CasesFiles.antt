@@ -87,6 +87,7 @@ actCases =
     Claims (sameBytes (reset L2) (19 ∷ 17 ∷ []) && sameBytes (reset L1) (51 ∷ 49 ∷ [])) ∷
     Claims (sameBytes (walk L2 2) (21 ∷ 17 ∷ 21 ∷ 17 ∷ []) && sameBytes (walk L1 1) (53 ∷ 49 ∷ [])) ∷
     Claims (sameBytes (show L2 2 2) (17 ∷ 21 ∷ 17 ∷ 1 ∷ 5 ∷ 1 ∷ 17 ∷ []) && sameBytes (show L1 2 1) (33 ∷ 37 ∷ 33 ∷ 49 ∷ 53 ∷ 49 ∷ 49 ∷ [])) ∷
+    Claims (sameBytes (show L2 32 0xffff0000) (times 16 (17 ∷ 21 ∷ 17 ∷ []) ++ (times 16 (1 ∷ 5 ∷ 1 ∷ []) ++ (17 ∷ [])))) ∷
     -- "PGM up, I/O d, CLK up, PGM down, I/O 1, CLK down"
     Claims (sameBytes (program L2 false) (25 ∷ 9 ∷ 13 ∷ 5 ∷ 21 ∷ 17 ∷ [])) ∷
     Claims (sameBytes (program L2 true) (25 ∷ 25 ∷ 29 ∷ 21 ∷ 21 ∷ 17 ∷ [])) ∷

@@ -58,6 +58,8 @@ keyCases =
     compares (digits 32 key) L2 5 1200 none 1232 (E1 + Match) ∷
     compares (digits 1 0) L2 5 1231 (SV + Match) 1232 (SV + E1 + Match) ∷
     compares (digits 1 0) L2 7 1231 (SV + Match) 1232 (SV + Match) ∷
+    compares (digits 1 0) L2 1 1231 Match 1232 (E1 + Match) ∷
+    compares (digits 1 0) L1 1 1231 Match 1232 (E1 + Match) ∷
     -- The compare is at the old address, then the address moves, then the new match sets E1: bit 1231 is 0.
     compares (digits 1 0) L2 5 1231 Match 1232 (E1 + Match) ∷
     compares (digits 1 1) L2 5 1231 Match 1232 none ∷

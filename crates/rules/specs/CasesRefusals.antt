@@ -6,8 +6,8 @@ use lib.Dec.{eqb, leb}
 use lib.ListN.{replicate}
 use Rattle.rules.specs.declared.Answer.the-variants.{Pin, Refused}
 use Rattle.rules.specs.Card.{numberOf, pinOf, answersIn}
-use Rattle.rules.specs.CaseForms.{none, SV, P1, R1, E1, Match, Latch, Programming, zero, one, released}
-use Rattle.rules.specs.CaseForms.{cardAt, sample, sameBytes, Case, Refuses, Claims, oneStep, refusesStep, madeUpAt, soundAt, unready}
+use Rattle.rules.specs.CaseForms.{none, SV, P1, R1, E1, Match, Latch, Programming, zero, one, released, no-answer}
+use Rattle.rules.specs.CaseForms.{cardAt, sample, sameBytes, session, Case, Refuses, Prints, Claims, oneStep, refusesStep, madeUpAt, soundAt, unready}
 use Rattle.rules.specs.CaseRanges.{eachIn, eachOf}
 use Rattle.rules.specs.ClaimForms.{borders}
 use Rattle.rules.specs.ClaimsRefusals.{RefusalRow, refusalRow, Up, Down, Either, changesAlone, refusedBy, refusesAs, refusesPairs, isMadeUp, fusesGet}
@@ -95,6 +95,7 @@ stateCases =
     madeUpAt 81 0 none ∷
     madeUpAt 17 1520 none ∷
     soundAt 17 1519 (SV + P1 + R1 + E1) ∷
+    soundAt 16 0 none ∷
     soundAt 63 0 (Latch + Programming) ∷
     -- "VCC off with anything but the lines non-zero": at every level without VCC.
     Claims (eachIn 0 31 (λ n. not (isMadeUp (n + n) 0 none) && eachOf (1 ∷ 2 ∷ 4 ∷ 8 ∷ 16 ∷ 32 ∷ 64 ∷ []) (isMadeUp (n + n) 0))) ∷
@@ -121,7 +122,20 @@ unfoldable pub answerCases : List Case
 unfolding numberOf pinOf
 answerCases =
     Claims (eqb (numberOf (Pin zero)) 0 && (eqb (numberOf (Pin one)) 0 && eqb (numberOf (Refused 3)) 3)) ∷
-    Claims (eqb (pinOf (Pin zero)) zero && (eqb (pinOf (Pin one)) one && eqb (pinOf (Refused 3)) released)) ∷
+    Claims (eqb (pinOf (Pin zero)) zero && (eqb (pinOf (Pin one)) one && eqb (pinOf (Refused 3)) no-answer)) ∷
+    []
+
+-- "stops at the first refused one, giving its number and the count done": no step is looked at before its turn.
+unfoldable pub runCases : List Case
+unfolding session sample
+runCases =
+    Prints (session sample 7 (16 ∷ 64 ∷ [])) 1 2 1 (released ∷ []) 8 ∷
+    Prints (session sample 7 (3 ∷ 64 ∷ [])) 0 2 2 [] 8 ∷
+    Prints (session sample 7 (16 ∷ 17 ∷ 22 ∷ 17 ∷ [])) 2 4 2 (released ∷ zero ∷ []) 8 ∷
+    -- "A fresh card has all lines low.": each line rises alone.
+    Prints (session sample 7 (1 ∷ [])) 1 1 0 (zero ∷ []) 8 ∷
+    Prints (session sample 7 (2 ∷ 0 ∷ 4 ∷ 0 ∷ 8 ∷ 0 ∷ [])) 6 6 0 (released ∷ released ∷ released ∷ released ∷ released ∷ released ∷ []) 8 ∷
+    Prints (session sample 7 (32 ∷ [])) 1 1 0 (released ∷ []) 8 ∷
     []
 
 -- "The rest of the answers buffer keeps its bytes."

@@ -44,9 +44,14 @@ unfoldable pub eraseCases : List Case
 unfolding changesNothing leaves applicationErased eachIn eachOf erases zeros image
 eraseCases =
     Claims (eachIn 1233 1359 (λ a. changesNothing true 17 5 a (SV + E1))) ∷
+    Claims
+    (eachOf (1233 ∷ 1359 ∷ [])
+    (λ a. eachOf (0 ∷ 1 ∷ []) (λ fuses. changesNothing true 17 fuses a (SV + E1) && changesNothing true 49 fuses a (SV + E1)))) ∷
     Claims (eachOf (0 ∷ 1 ∷ 4 ∷ 5 ∷ []) (λ fuses. leaves true 17 fuses 1232 (SV + E1) fuses applicationErased)) ∷
     Claims (eachOf (1233 ∷ 1248 ∷ 1295 ∷ 1343 ∷ 1344 ∷ 1358 ∷ []) (λ a. leaves true 17 3 a (SV + E1) 3 applicationErased)) ∷
-    -- At level 1 the word, also with EC_EN blown.
+    -- At level 1 the word, with EC_EN unblown and blown.
+    erases L1 7 zeros 1240 SV (image ((154, 0) ∷ (2, 255) ∷ (18, 0) ∷ [])) ∷
+    erases L1 7 zeros 1359 (SV + E1) (image ((168, 0) ∷ (2, 255) ∷ (4, 0) ∷ [])) ∷
     erases L1 5 zeros 1233 SV (image ((154, 0) ∷ (2, 255) ∷ (18, 0) ∷ [])) ∷
     erases L1 5 zeros 1359 (SV + E1) (image ((168, 0) ∷ (2, 255) ∷ (4, 0) ∷ [])) ∷
     []

@@ -5,9 +5,10 @@
 use Prim.Native.Nat.{ℕ, _+_}
 use mathlib.Core.List.{List, [], _∷_}
 use lib.ListN.{set}
+use Rattle.rules.specs.declared.Answer.the-variants.{Pin}
 use Rattle.rules.specs.Maker.{reset}
 use Rattle.rules.specs.CaseForms.{none, SV, P1, R1, E1, Match, Latch, Programming, L1, L2, zero, one, released}
-use Rattle.rules.specs.CaseForms.{cardAt, idleAt, ones, zeros, sample, Case, Runs, Shows, Claims, walks, oneStep, cuts}
+use Rattle.rules.specs.CaseForms.{cardAt, idleAt, ones, zeros, image, sample, Case, Runs, Shows, Step, Claims, walks, oneStep, cuts}
 use Rattle.rules.specs.CaseRanges.{eachIn, eachOf}
 use Rattle.rules.specs.ClaimForms.{borders}
 use Rattle.rules.specs.ClaimsSteps.{neverRead, movesOn, arrives}
@@ -58,6 +59,22 @@ lineCases =
     oneStep 7 85 Match 3 85 Match released ∷
     oneStep 23 1519 (SV + E1 + Latch) 19 1519 (SV + E1) released ∷
     oneStep 55 1240 (allSet + Latch) 51 1240 allSet released ∷
+    oneStep 23 176 Latch 19 176 none released ∷
+    oneStep 7 177 none 3 177 none released ∷
+    Step (cardAt 23 5 sample 1232 (Match + Latch)) 19 (cardAt 19 5 sample 1232 Match) (Pin released) ∷
+    -- Standing on 176 or 177, whose bits are 1, sets no flag: only arriving does.
+    oneStep 17 176 none 17 176 none released ∷
+    oneStep 17 176 none 21 176 Latch released ∷
+    oneStep 17 177 none 19 177 none released ∷
+    oneStep 21 177 Latch 53 177 Latch released ∷
+    oneStep 17 176 none 1 176 none released ∷
+    oneStep 25 177 none 17 177 none released ∷
+    -- Nothing is compared when CLK rises, and match does not end when FUS does.
+    oneStep 17 84 Match 21 84 (Match + Latch) released ∷
+    oneStep 17 1210 Match 49 1210 Match released ∷
+    -- The right to read is that of the levels after the step.
+    oneStep 17 81 SV 49 81 SV zero ∷
+    oneStep 49 81 SV 17 81 SV released ∷
     -- RST rises, FUS rises and falls, PGM rises, and falls with CLK low: nothing more.
     oneStep 17 1240 allSet 19 1240 allSet released ∷
     oneStep 21 1240 (allSet + Latch) 23 1240 (allSet + Latch) released ∷
@@ -79,6 +96,19 @@ lineCases =
     -- "RST falls: address 0." "Clearing SV, P1 or R1 at RST. Only E1 falls.", and match.
     Runs (idleAt L2 7 sample 1240 allSet) (reset L2) (idleAt L2 7 sample 0 (SV + P1 + R1)) (released ∷ zero ∷ []) ∷
     Runs (idleAt L1 7 sample 100 (SV + Match)) (reset L1) (idleAt L1 7 sample 0 SV) (released ∷ zero ∷ []) ∷
+    []
+
+-- "CLK falls in programming: the operation takes effect": not when CLK rises, nor when PGM or I/O falls, and by the latch alone.
+unfoldable pub startCases : List Case
+unfolding oneStep cardAt idleAt ones zeros image
+startCases =
+    oneStep 9 1360 none 13 1360 Programming released ∷
+    Step (cardAt 25 7 zeros 1360 none) 29 (cardAt 29 7 zeros 1360 (Latch + Programming)) (Pin released) ∷
+    Step (cardAt 29 7 zeros 1360 (Latch + Programming)) 21 (cardAt 21 7 zeros 1360 (Latch + Programming)) (Pin released) ∷
+    Step (cardAt 21 7 zeros 1360 (Latch + Programming)) 5 (cardAt 5 7 zeros 1360 (Latch + Programming)) (Pin released) ∷
+    Step (cardAt 5 7 zeros 1360 (Latch + Programming)) 1 (cardAt 1 7 (image ((170, 0) ∷ (2, 255) ∷ (2, 0) ∷ [])) 1360 none) (Pin one) ∷
+    Step (cardAt 21 7 ones 1360 Programming) 17 (cardAt 17 7 (image ((170, 255) ∷ (1, 127) ∷ (3, 255) ∷ [])) 1360 none) (Pin zero) ∷
+    Runs (idleAt L2 7 ones 1360 none) (25 ∷ 9 ∷ 13 ∷ 12 ∷ []) (cardAt 12 7 ones 0 none) [] ∷
     []
 
 -- "memory unchanged even in the middle of programming": erases, writes and blows that would take effect, with PGM high and low.
@@ -105,6 +135,10 @@ unfoldable pub arrivalCases : List Case
 unfolding walks sample zeros ones movesOn arrives borders eachIn eachOf
 arrivalCases =
     walks 2 L2 7 sample 174 none 176 P1 [] ∷
+    -- Leaving sets nothing.
+    walks 1 L2 7 sample 176 none 177 R1 [] ∷
+    walks 1 L2 7 sample 177 none 178 none [] ∷
+    walks 1 L2 5 sample 1232 Match 1233 Match [] ∷
     walks 2 L2 7 sample 175 none 177 (P1 + R1) [] ∷
     walks 2 L1 7 sample 175 none 177 (P1 + R1) [] ∷
     walks 2 L1 7 sample 175 SV 177 (SV + P1 + R1) [] ∷
@@ -137,6 +171,7 @@ pinCases =
     -- "Showing flags among the pin answers: E1 or P1 would tell of the hidden zones."
     Shows L2 7 zeros P1 ((80, released) ∷ (176, released) ∷ (1199, released) ∷ (1200, released) ∷ (1392, released) ∷ []) ∷
     Shows L2 7 zeros (P1 + E1) ((1232, zero) ∷ (1391, zero) ∷ (1392, released) ∷ (1519, released) ∷ []) ∷
+    Shows L2 7 zeros (SV + R1) ((176, zero) ∷ (1199, zero) ∷ []) ∷
     Shows L2 7 zeros Match ((81, released) ∷ (95, released) ∷ (1201, released) ∷ (1231, released) ∷ []) ∷
     -- "VCC is on, RST and PGM are low, no programming is under way": bit 0 is 0.
     oneStep 16 0 none 16 0 none released ∷

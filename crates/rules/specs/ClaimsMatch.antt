@@ -28,7 +28,8 @@ codeCompared a begun (b ∷ bs) =
     clocks 17 7 a b begun Match &&
     (clocks 49 7 a b begun Match &&
     (clocks 17 7 a (1 - b) begun none &&
-    (clocks 17 7 a b none (Match - begun) && (clocks 17 7 a b (SV + begun) SV && codeCompared (a + 1) Match bs))))
+    (clocks 17 7 a b none (Match - begun) &&
+    (clocks 17 7 a b (SV + begun) SV && (clocks 49 7 a b (SV + begun) SV && codeCompared (a + 1) Match bs)))))
 
 -- The key's: at level 2 in its three ways, also with SV, but not at level 1.
 unfoldable pub keyCompared : ℕ → ℕ → List ℕ → Bool
@@ -39,9 +40,11 @@ keyCompared a begun (b ∷ bs) =
     (clocks 17 3 a b (SV + begun) (SV + Match) &&
     (clocks 49 3 a b begun Match &&
     (clocks 17 7 a (1 - b) begun none &&
-    (clocks 17 7 a b none (Match - begun) && (clocks 49 7 a b begun none && keyCompared (a + 1) Match bs)))))
+    (clocks 17 7 a b none (Match - begun) &&
+    (clocks 49 7 a b begun none && (clocks 49 7 a b (SV + begun) SV && keyCompared (a + 1) Match bs))))))
 
--- At any other address there is no compare: match stays as it is, whatever is latched.
+-- At any other address there is no compare: match stays where the bits differ, SV is set and the level is 1, and does not come where they
+-- are equal.
 unfoldable pub notCompared : ℕ → Bool
 unfolding the-card
 notCompared a = compared true true true false a true && not (compared false false true true a false)

@@ -10,7 +10,7 @@ use Rattle.rules.specs.CaseRanges.{eachIn, eachOf}
 use Rattle.rules.specs.ClaimForms.{idle-low, way, ways, everything, pinIs}
 use Rattle.rules.specs.Computing.{the-card}
 
--- "Addresses 1392 to 1519 are never read": without a flag and with all, at both levels.
+-- "Addresses 1392 to 1519 are never read": with all flags at both levels, and without any.
 unfoldable pub neverRead : Bool
 unfolding pinIs everything ways eachIn eachOf
 neverRead =

@@ -10,4 +10,4 @@ use Rattle.session.specs.Cases.{one-step, reads-the-code, Sessions-print
 
 pub sessions-print : Sessions-print
 unfolding the-card the-text sample sessionBytes endsIn one-step reads-the-code runText memorySection fuseSection stepCount stepSection sessionRefusal sessionText
-sessions-print = (refl, refl, refl, refl, refl, refl, refl, refl, refl, refl, refl, refl, refl)
+sessions-print = (refl, refl, refl, refl, refl, refl, refl, refl, refl, refl, refl, refl, refl, refl)

@@ -36,6 +36,8 @@ Sessions-print =
     -- The fuses are the session's: with FUS high and SV, bit 81, a 0, is read with ISS unblown alone.
     (endsIn (sessionText (sessionBytes sample 7 reads-the-code)) (shown zero ∷ quoted "\nleft 8\n") ≡ true) ×
     (endsIn (sessionText (sessionBytes sample 3 reads-the-code)) (shown released ∷ quoted "\nleft 8\n") ≡ true) ×
+    -- The ones left are those after the run: a wrong code has spent a try.
+    (endsIn (sessionText (sessionBytes sample 7 (32 ∷ 48 ∷ 49 ∷ open-card L1 0xa53d 255))) (quoted "left 7\n") ≡ true) ×
     -- "It prints `bad N` alone": 11 to 17.
     Prints [] "bad 11\n" ×
     Prints (take 178 one-step) "bad 11\n" ×
