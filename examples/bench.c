@@ -96,5 +96,6 @@ int main(void) {
         done(&card, zhav_walk(0, 1, steps, sizeof steps));
     }
     printf("steps given: %zu, address %u\n", card.given, card.half.address);
+    need(fflush(stdout) == 0, "standard output cannot be written");
     return 0;
 }

@@ -10,7 +10,7 @@ use Rattle.rules.specs.CaseForms.{none, SV, P1, R1, E1, Match, Latch, Pr
 use Rattle.rules.specs.CaseForms.{cardAt, sample, sameBytes, session, Case, Refuses, Prints, Claims, oneStep, refusesStep, madeUpAt, soundAt, unready}
 use Rattle.rules.specs.CaseRanges.{eachIn, eachOf}
 use Rattle.rules.specs.ClaimForms.{borders}
-use Rattle.rules.specs.ClaimsRefusals.{RefusalRow, refusalRow, Up, Down, Either, changesAlone, refusedBy, refusesAs, refusesPairs, isMadeUp, fusesGet}
+use Rattle.rules.specs.ClaimsRefusals.{RefusalRow, refusalRow, Up, Down, Either, noneChanges, changesAlone, refusedBy, refusesAs, refusesPairs, isMadeUp, fusesGet}
 
 -- 3 "RST or FUS changes in programming", 4 "CLK falls in programming with PGM high", 5 "RST falls with CLK high", 6 "PGM rises with CLK
 -- high", 7 "VCC rises with CLK or PGM high"; "3 to 6 need VCC".
@@ -25,10 +25,10 @@ refusalRows =
     []
 
 unfoldable pub stepRefusals : List Case
-unfolding refusalRows changesAlone refusesAs refusesPairs refusedBy refusesStep oneStep eachIn eachOf
+unfolding refusalRows noneChanges changesAlone refusesAs refusesPairs refusedBy refusesStep oneStep eachIn eachOf
 stepRefusals =
     -- "At most one line may differ from the present ones": each line, at some levels.
-    Claims (eachOf (0 ∷ 17 ∷ 42 ∷ 63 ∷ []) changesAlone) ∷
+    Claims (noneChanges && eachOf (0 ∷ 17 ∷ 42 ∷ 63 ∷ []) changesAlone) ∷
     -- Every level, with no line and with each line changed, in programming and not; each pair of lines changed.
     Claims (eachIn 0 63 (refusesAs refusalRows)) ∷
     Claims (eachOf (0 ∷ 1 ∷ 17 ∷ 21 ∷ 29 ∷ 42 ∷ 61 ∷ 63 ∷ []) refusesPairs) ∷

@@ -1,19 +1,19 @@
 -- 01, "Rights": the table of rights, block and fuses.
 use Prim.Native.Nat.{_+_, _-_}
-use mathlib.Core.Bool.{true, false, not, _&&_}
+use mathlib.Core.Bool.{true, false, not, _&&_, Bool·beq}
 use mathlib.Core.List.{List, [], _∷_}
 use lib.ListN.{set}
-use lib.Dec.{eqb}
+use lib.Dec.{eqb, leb}
 use Rattle.memory.specs.Image.{bit, written, erasedWord, filled}
 use Rattle.rules.specs.declared.Zone.the-variants.{Gap}
 use Rattle.rules.specs.declared.Operation.the-variants.{Nothing, WriteBit, EraseWord, EraseZone}
 use Rattle.rules.specs.declared.Operation.the-variants.{WriteBlock, EraseBlock, BlowMF, BlowECEN, BlowISS}
-use Rattle.rules.specs.Programming.{turns, effect, memoryAfter, fusesAfter}
+use Rattle.rules.specs.Programming.{turns, opens, keyOpens, effect, memoryAfter, fusesAfter}
 use Rattle.rules.specs.CaseForms.{none, SV, P1, R1, E1, L1, L2}
 use Rattle.rules.specs.CaseForms.{ones, zeros, image, sample, sameBytes, Case, Claims, writes, erases, blows}
 use Rattle.rules.specs.CaseRanges.{eachIn, eachOf}
-use Rattle.rules.specs.ClaimForms.{leaves, changesNothing, everything, bitWritten, applicationErased, blockWritten, blockErased}
-use Rattle.rules.specs.ClaimsRights.{MF, Always, Never, With, SV-or-R1, ZoneRow, zoneRow, accessed, needsRstLow, FuseRow, fuseRow, blown, empty}
+use Rattle.rules.specs.ClaimForms.{borders, leaves, changesNothing, everything, bitWritten, applicationErased, blockWritten, blockErased}
+use Rattle.rules.specs.ClaimsRights.{MF, Always, Never, With, SV-or-R1, ZoneRow, zoneRow, accessed, needsRstLow, FuseRow, fuseRow, blown, carriesOut, empty}
 
 -- 01's table: bits; read, write and erase at level 1; the same at level 2. The erase in EC at level 2 is the one of the application zone.
 unfoldable pub zoneRows : List ZoneRow
@@ -86,10 +86,22 @@ programCases =
     writes L1 7 ones 177 (SV + P1 + R1) (set ones 22 0xbf) ∷
     []
 
--- "a write that turns a 1 into 0": no other operation does. At a gap there is none.
+-- "a write that turns a 1 into 0": no other operation does. At a gap there is no operation and no right; a fuse is blown by right only
+-- where ISS is unblown.
 unfoldable pub operationCases : List Case
-unfolding turns effect memoryAfter fusesAfter ones zeros sameBytes eachOf
+unfolding turns opens keyOpens effect memoryAfter fusesAfter carriesOut borders ones zeros sameBytes eachIn eachOf
 operationCases =
+    Claims
+    (eachOf borders
+    (λ a.
+    Bool·beq (opens WriteBit ones a true) (leb 96 a && leb a 103) &&
+    Bool·beq (keyOpens WriteBit ones a true false true) (leb 1232 a && leb a 1359))) ∷
+    Claims
+    (eachOf (1424 ∷ 1480 ∷ 1482 ∷ 1503 ∷ [])
+    (λ a. eachOf (true ∷ false ∷ []) (λ erase. not (carriesOut erase 49 7 a) && not (carriesOut erase 51 7 a)))) ∷
+    Claims
+    (eachOf (1408 ∷ 1481 ∷ 1504 ∷ [])
+    (λ a. carriesOut false 51 7 a && (carriesOut false 51 4 a && eachIn 0 3 (λ fuses. not (carriesOut false 51 fuses a))))) ∷
     Claims
     (eachOf (Nothing ∷ EraseWord ∷ EraseZone ∷ WriteBlock ∷ EraseBlock ∷ BlowMF ∷ BlowECEN ∷ BlowISS ∷ [])
     (λ op. not (turns op ones 96) && not (turns op ones 1232))) ∷

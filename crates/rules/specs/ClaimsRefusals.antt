@@ -4,7 +4,7 @@ use mathlib.Core.Bool.{Bool, true, false, cond, not, _&&_, _||_, Bool·beq}
 use mathlib.Core.List.{List, [], _∷_}
 use lib.Dec.{eqb, leb}
 use Rattle.rules.specs.Halves.{fresh}
-use Rattle.rules.specs.Lines.{Line, VCC, RST, CLK, PGM, IO, FUS, edge}
+use Rattle.rules.specs.Lines.{Line, VCC, RST, CLK, PGM, IO, FUS, Same, Many, edge}
 use Rattle.rules.specs.Refusals.{rises, falls, refusal, madeUp, stateRefusal}
 use Rattle.rules.specs.CaseForms.{none, Programming}
 use Rattle.rules.specs.CaseForms.{state, sample}
@@ -83,6 +83,13 @@ changesAlone levels =
     (λ y.
     let same = eqb (x .1) (y .1) in
     Bool·beq (rises (y .0) e) (same && not high) && Bool·beq (falls (y .0) e) (same && high)))
+
+-- Where no line changes, or more than one, none rises or falls.
+unfoldable pub noneChanges : Bool
+unfolding the-card eachOf
+noneChanges =
+    eachOf lines
+    (λ x. not (rises (x .0) Same) && (not (falls (x .0) Same) && (not (rises (x .0) Many) && not (falls (x .0) Many))))
 
 -- From these levels no line changes, or one; with programming under way and without.
 unfoldable pub refusesAs : List RefusalRow → ℕ → Bool

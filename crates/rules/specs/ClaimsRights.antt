@@ -4,10 +4,15 @@ use mathlib.Core.Bool.{Bool, true, false, cond, not, _&&_, _||_}
 use mathlib.Core.List.{List, [], _∷_}
 use lib.Dec.{eqb, leb}
 use lib.ListN.{getD}
+use Rattle.rules.specs.Halves.{EC-EN, unblown}
+use Rattle.rules.specs.Zones.{zone}
+use Rattle.rules.specs.Rights.{held}
+use Rattle.rules.specs.Programming.{mayProgram}
 use Rattle.rules.specs.CaseForms.{none, SV, P1, R1, E1, zero, one, released}
-use Rattle.rules.specs.CaseForms.{ones}
+use Rattle.rules.specs.CaseForms.{state, ones}
 use Rattle.rules.specs.CaseRanges.{eachIn, eachOf}
 use Rattle.rules.specs.ClaimForms.{idle-low, RST, Way, ways, everything, leaves, changesNothing, bitWritten, wordErased, applicationErased, pinIs}
+use Rattle.rules.specs.Computing.{the-card}
 
 -- What 01's table asks of an access: nothing, a sum of SV, P1, E1 and MF, or one of SV and R1; or it is never there.
 abbrev pub MF : ℕ
@@ -123,6 +128,12 @@ blown f =
     blowsAs f a 7 32 true &&
     (changesNothing true 51 7 a (everything a) &&
     (changesNothing true 49 7 a (everything a) && changesNothing false 49 7 a (everything a))))
+
+-- With everything there, the operation is carried out by right, whether or not a bit changes.
+unfoldable pub carriesOut : Bool → ℕ → ℕ → ℕ → Bool
+unfolding the-card state everything
+carriesOut erase levels fuses a =
+    mayProgram (held fuses (state levels a (everything a))) (unblown EC-EN fuses) (eqb (levels / RST % 2) 1) erase a (zone a)
 
 -- Where nothing is stored, nothing changes: with everything there, at both levels of RST.
 unfoldable pub empty : ℕ → Bool
