@@ -5,9 +5,10 @@ use mathlib.Core.List.{List, [], _∷_}
 use lib.ListN.{set}
 use lib.Dec.{eqb, leb}
 use Rattle.memory.specs.Image.{bit, written, erasedWord, filled}
-use Rattle.rules.specs.declared.Zone.the-variants.{Gap}
+use Rattle.rules.specs.declared.Zone.the-variants.{Block, FuseMF, FuseECEN, FuseISS, Gap}
 use Rattle.rules.specs.declared.Operation.the-variants.{Nothing, WriteBit, EraseWord, EraseZone}
 use Rattle.rules.specs.declared.Operation.the-variants.{WriteBlock, EraseBlock, BlowMF, BlowECEN, BlowISS}
+use Rattle.rules.specs.Zones.{isFuse}
 use Rattle.rules.specs.Programming.{turns, opens, keyOpens, effect, memoryAfter, fusesAfter}
 use Rattle.rules.specs.CaseForms.{none, SV, P1, R1, E1, L1, L2}
 use Rattle.rules.specs.CaseForms.{ones, zeros, image, sample, sameBytes, Case, Claims, writes, erases, blows}
@@ -136,9 +137,10 @@ fuseRows =
     []
 
 unfoldable pub fuseCases : List Case
-unfolding fuseRows blown empty blows eachOf
+unfolding isFuse fuseRows blown empty blows eachOf
 fuseCases =
     Claims (eachOf fuseRows blown) ∷
+    Claims (isFuse FuseMF && (isFuse FuseECEN && (isFuse FuseISS && (not (isFuse Block) && not (isFuse Gap))))) ∷
     Claims (eachOf (1424 ∷ 1450 ∷ 1480 ∷ 1482 ∷ 1492 ∷ 1503 ∷ []) empty) ∷
     -- The maker's blow ends at 0.
     blows L1 7 1423 SV 6 ∷
