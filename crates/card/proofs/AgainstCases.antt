@@ -21,6 +21,7 @@ steps-answer = (
   record { answer = refl; memory = refl },
   record { answer = refl; memory = refl },
   record { answer = refl; memory = refl },
+  record { answer = refl; memory = refl },
 )
 
 pub runs-answer : Runs-answer

@@ -37,6 +37,8 @@ Steps-answer =
     -- "a write that turns a 1 into 0 at 96 to 103 while match holds sets SV", and one that blows ISS.
     StepsTo (sample, 5, half 21 96 72) 17 (set sample 12 127, 5, half 17 96 65) (Pin zero) ×
     StepsTo (sample, 7, half 23 1504 9) 19 (sample, 3, half 19 1504 1) (Pin released) ×
+    -- An erase in IZ at level 1, which the fuses make.
+    StepsTo (set sample 2 0, 7, half 53 16 25) 49 (sample, 7, half 49 16 1) (Pin one) ×
     -- 1, 2 and 3.
     StepRefused (sample, 5, half 17 0 0) 64 1 ×
     StepRefused (sample, 5, half 17 0 7) 22 2 ×

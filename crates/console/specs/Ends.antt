@@ -52,3 +52,9 @@ unfoldable pub stopped : Output → Output
 stopped Open = Stopped
 stopped Lost = Lost
 stopped Stopped = Stopped
+
+-- The end of a program: a loss is told, and then it has stopped.
+unfoldable pub ended : Output → Output
+ended Open = Open
+ended Lost = Stopped
+ended Stopped = Stopped

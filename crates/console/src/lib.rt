@@ -6,7 +6,7 @@ ghost use mathlib.Core.Path.{_≡_};
 ghost use lib.ListN.{length};
 ghost use Rattle.report.specs.Buffer.{Put};
 ghost use Rattle.console.specs.Told.{toldLine};
-ghost use Rattle.console.specs.Ends.{outcome, Part, Taken, NotLost, Said, stopped};
+ghost use Rattle.console.specs.Ends.{outcome, Part, Taken, NotLost, Said, stopped, ended};
 
 // The outcome of one read.
 enum Read {
@@ -139,10 +139,17 @@ impl Output {
         }
     }
 
-    pub fn end(self, program: &[u8]) {
-        let Output::Lost = self else {
-            return;
-        };
-        tell(program, b"standard output cannot be written", b"");
+    // Tells of an output that is lost, once.
+    pub fn end(self, program: &[u8]) -> Output
+        ensures { λ r. ⌜ r ≡ ended self ⌝ }
+    {
+        match self {
+            Output::Open => Output::Open,
+            Output::Lost => {
+                tell(program, b"standard output cannot be written", b"");
+                Output::Stopped
+            }
+            Output::Stopped => Output::Stopped,
+        }
     }
 }

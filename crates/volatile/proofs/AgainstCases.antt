@@ -32,4 +32,4 @@ moved = (refl, refl, refl, refl, refl, refl, refl)
 
 pub operates : Operates
 unfolding the-card state mayProgramNow operationNow
-operates = (refl, refl, refl, refl, refl, refl)
+operates = (refl, refl, refl, refl, refl, refl, refl, refl)

@@ -151,7 +151,9 @@ Operates =
     (state 21 96 (SV + Latch + Programming), true) ∷
     (state 7 96 Programming, false) ∷
     []) ×
-    -- The erase in EC at level 2 past 1232, with EC_EN unblown and blown, and a write that blows ISS.
+    -- The erase in EC at level 2 with EC_EN blown at 1232; past it with EC_EN unblown and blown; and a write that blows ISS.
+    Gives (operationNow 5) ((state 21 1232 (SV + E1 + Latch + Programming), EraseZone) ∷ []) ×
+    Gives (mayProgramNow 5) ((state 21 1232 (SV + E1 + Latch + Programming), true) ∷ []) ×
     Gives (λ fuses. operationNow fuses (state 21 1233 (SV + E1 + Latch + Programming))) ((7, EraseZone) ∷ (5, Nothing) ∷ []) ×
     Gives (λ fuses. mayProgramNow fuses (state 21 1233 (SV + E1 + Latch + Programming))) ((7, true) ∷ (5, false) ∷ []) ×
     Gives (λ fuses. operationNow fuses (state 7 1504 (SV + Programming))) ((7, BlowISS) ∷ (3, Nothing) ∷ []) ×
