@@ -22,7 +22,7 @@ fn main() {
         }
         Assembled::Wrong { line, reason } => {
             let mut said = [0u8; 84];
-            let Text::Wrote(length) = reasons::error_line(line, reason, &mut said) else {
+            let Text::Wrote(length) = text_errors::error_line(line, reason, &mut said) else {
                 return;
             };
             io::write_all(STDERR_FILENO, &said[..length]);

@@ -16,7 +16,7 @@ use Rattle.volatile.specs.declared.Volatile.{Volatile}
 use Rattle.volatile.specs.Packed.{unpacked, cardOf}
 use Rattle.card.specs.declared.Ran.{Ran}
 use Rattle.card.specs.Moves.{ranTo, Runs}
-use Rattle.checks.specs.Numbers.{stateNumber, runNumber}
+use Rattle.refusals.specs.Numbers.{stateNumber, runNumber}
 use Rattle.card.specs.Contracts.{runAnswer, runMemory, runAnswers, stepAnswer, stepMemory}
 use Rattle.card.specs.Contracts.{StepAnswered, RunAnswered}
 

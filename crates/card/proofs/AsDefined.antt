@@ -17,7 +17,7 @@ use Rattle.volatile.proofs.Packing.{packed-unpacked}
 use Rattle.card.specs.declared.Ran.{Ran}
 use Rattle.card.specs.declared.Stepped.{Stepped}
 use Rattle.card.specs.Moves.{ranTo}
-use Rattle.checks.specs.Numbers.{stateNumber, runNumber}
+use Rattle.refusals.specs.Numbers.{stateNumber, runNumber}
 use Rattle.card.specs.Contracts.{stepAnswer, stepMemory, ranOn, runAnswer, runMemory, runAnswers}
 
 module _ (m : List ℕ) (fuses : ℕ) (v : Volatile) (word : v .flags ≤ 127) where

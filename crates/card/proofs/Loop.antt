@@ -23,7 +23,7 @@ use Rattle.volatile.proofs.Packing.{unpacked-packed, packed-unpacked, packed-sm
 use Rattle.card.specs.declared.handed.Moved.{Moved}
 use Rattle.card.specs.declared.Ran as Declared
 use Rattle.card.specs.Moves.{Ready, moved, movedTo, movedBy, Steps, ranTo, Runs}
-use Rattle.checks.specs.Numbers.{stateNumber}
+use Rattle.refusals.specs.Numbers.{stateNumber}
 use Rattle.card.proofs.ByLine.{flags-small, sound-half}
 
 -- A run with answers that were given before it.

@@ -19,7 +19,7 @@ use Rattle.volatile.specs.Packed.{packed, unpacked, cardOf, goneOn}
 use Rattle.card.specs.declared.handed.Moved.{Moved}
 use Rattle.card.specs.declared.quick.Quick.the-variants.{To}
 use Rattle.card.specs.Moves.{Ready, Plain, QuickTo}
-use Rattle.checks.specs.Numbers.{stateNumber}
+use Rattle.refusals.specs.Numbers.{stateNumber}
 use Rattle.card.specs.Contracts.{stepAnswer, stepMemory, StepAnswered}
 use Rattle.card.proofs.Turned.{Turned, by-difference}
 use Rattle.card.proofs.EdgeLaws.{reads}

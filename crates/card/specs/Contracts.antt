@@ -13,7 +13,7 @@ use Rattle.card.specs.declared.Ran.{Ran}
 use Rattle.card.specs.declared.FlagsAnswer.{FlagsAnswer}
 use Rattle.card.specs.declared.FlagsAnswer.the-variants.{Held, Refused as Barred}
 use Rattle.volatile.specs.Packed.{packed, unpacked, cardOf, madeUpWord}
-use Rattle.checks.specs.Numbers.{stateNumber, runNumber}
+use Rattle.refusals.specs.Numbers.{stateNumber, runNumber}
 
 -- A step's answer, with the halves that are handed back.
 unfoldable pub stepAnswer : List ℕ → ℕ → Volatile → ℕ → Stepped

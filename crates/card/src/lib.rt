@@ -8,7 +8,7 @@ ghost use Prim.Native.Nat.{_≤_};
 ghost use lib.ListN.{length};
 ghost use Rattle.rules.specs.Card.{triesLeft};
 ghost use Rattle.card.specs.Moves.{Runs};
-ghost use Rattle.checks.specs.Numbers.{stateNumber};
+ghost use Rattle.refusals.specs.Numbers.{stateNumber};
 ghost use Rattle.card.specs.Contracts.{StepAnswered, RunAnswered, flagsOf};
 
 mod by_line;
@@ -81,7 +81,7 @@ fn drive(image: &mut [u8], fuses: u8, v: Volatile, steps: &[u8], answers: &mut [
 pub fn run(image: &mut [u8], fuses: u8, v: Volatile, steps: &[u8], answers: &mut [u8]) -> Ran
     ensures { λ r. ⌜ RunAnswered (now (image .entry)) fuses v (now (steps .entry)) (now (answers .entry)) r (now (image .exit)) (now (answers .exit)) ⌝ }
 {
-    let number = checks::run_number(image, fuses, v, steps.len(), answers.len());
+    let number = refusals::run_number(image, fuses, v, steps.len(), answers.len());
     if number != 0 {
         return Ran {
             fuses: fuses,
@@ -120,7 +120,7 @@ fn step_by_run(image: &mut [u8], fuses: u8, v: Volatile, n: u8) -> Stepped
 pub fn step(image: &mut [u8], fuses: u8, v: Volatile, n: u8) -> Stepped
     ensures { λ r. ⌜ StepAnswered (now (image .entry)) fuses v n r (now (image .exit)) ⌝ }
 {
-    let number = checks::quick_state_number(image, fuses, v);
+    let number = refusals::quick_state_number(image, fuses, v);
     if number != 0 {
         return Stepped {
             fuses: fuses,

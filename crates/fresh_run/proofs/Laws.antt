@@ -17,7 +17,7 @@ use Rattle.rules.specs.Card as Rules
 use Rattle.rules.specs.Demands.{freshCard}
 use Rattle.volatile.specs.Packed.{packed, unpacked, word, cardOf, madeUpWord}
 use Rattle.card.specs.declared.Ran.{Ran}
-use Rattle.checks.specs.Numbers.{stateNumber, runNumber}
+use Rattle.refusals.specs.Numbers.{stateNumber, runNumber}
 use Rattle.card.specs.Contracts.{ranOn, runAnswer, runMemory, runAnswers, RunAnswered}
 use Rattle.report.specs.Lines.{fourLines}
 use Rattle.report.specs.Session.{reported}

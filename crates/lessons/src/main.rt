@@ -31,7 +31,7 @@ fn tell(out: Output, source: &[u8], recorded: &[u8]) -> Output {
         }
         Assembled::Wrong { line, reason } => {
             let mut said = [0u8; 84];
-            let made = reasons::error_line(line, reason, &mut said);
+            let made = text_errors::error_line(line, reason, &mut said);
             show(out, made, &said)
         }
     }

@@ -6,8 +6,8 @@ use native.Mathlib.Omega.{arith}
 use borrow.Author.Tests.{eq-eqb, ne-eqb}
 use lib.ListN.{length, take}
 use lib.Seq.{length-take-le}
-use Rattle.acts.specs.declared.Change.{Change}
-use Rattle.acts.specs.declared.Order.the-variants.{Image}
+use Rattle.text_lines.specs.declared.Change.{Change}
+use Rattle.text_lines.specs.declared.Order.the-variants.{Image}
 use Rattle.text.specs.Sheet.{changed, follow}
 use Rattle.text.specs.Progress.{sheetOf, outcomeOf, countOf, Came, Changed}
 use Rattle.text.specs.declared.sheet.Progress.{Progress}

@@ -15,8 +15,8 @@ use Rattle.rules.specs.Refusals.{longest}
 use Rattle.maker.specs.Act.{made, inBuffer, Acted}
 use Rattle.maker.specs.declared.Made.{Made}
 use Rattle.maker.specs.declared.Made.the-variants.{Wrote, Refused}
-use Rattle.acts.specs.declared.Act.{Act}
-use Rattle.waveforms.specs.Steps.{stepsOf, refusalOf}
+use Rattle.text_lines.specs.declared.Act.{Act}
+use Rattle.text_steps.specs.Steps.{stepsOf, refusalOf}
 use Rattle.text.specs.Sheet.{present, added, driven}
 use Rattle.text.specs.Progress.{sheetOf, outcomeOf, countOf, Came}
 use Rattle.text.specs.declared.sheet.Progress.{Progress}

@@ -13,7 +13,7 @@ use Rattle.words.specs.Scan.{aheadOf, upTo, linesOf}
 use Rattle.words.specs.declared.Stop.the-variants.{LineEnd}
 use Rattle.words.proofs.Lines.{lines-first}
 use Rattle.words.proofs.Scans.{ahead-le}
-use Rattle.acts.specs.Orders.{lineOrder}
+use Rattle.text_lines.specs.Orders.{lineOrder}
 use Rattle.text.specs.Sheet.{Sheet, Outcome, sheetWith, follow}
 use Rattle.text.specs.Sheet as sheet
 use Rattle.text.specs.Meaning.{onward, reading}

@@ -15,12 +15,12 @@ use Rattle.maker.specs.Act.{made}
 use Rattle.maker.specs.declared.Made.{Made}
 use Rattle.maker.specs.declared.Made.the-variants as maker
 use Rattle.words.specs.Scan.{linesOf}
-use Rattle.acts.specs.Orders.{lineOrder}
-use Rattle.acts.specs.declared.Change.{Change}
-use Rattle.acts.specs.declared.Change.the-variants.{Fill, Bytes, Fuses}
-use Rattle.acts.specs.declared.Order.{Order}
-use Rattle.acts.specs.declared.Order.the-variants.{Nothing, Image, Drive, Wrong}
-use Rattle.acts.proofs.Fitting.{Fitting, line-fits}
+use Rattle.text_lines.specs.Orders.{lineOrder}
+use Rattle.text_lines.specs.declared.Change.{Change}
+use Rattle.text_lines.specs.declared.Change.the-variants.{Fill, Bytes, Fuses}
+use Rattle.text_lines.specs.declared.Order.{Order}
+use Rattle.text_lines.specs.declared.Order.the-variants.{Nothing, Image, Drive, Wrong}
+use Rattle.text_lines.proofs.Fitting.{Fitting, line-fits}
 use Rattle.text.specs.Sheet.{Sheet, Outcome, Went, Stopped, sheetWith, blankSheet, bytesOf, changedImage, changedFuses, changed, added, driven, follow}
 use Rattle.text.specs.Meaning.{Reading, Whole, Amiss, onward, reading, meaning}
 use Rattle.text.proofs.Driving.{wrote}

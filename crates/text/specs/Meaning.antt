@@ -5,7 +5,7 @@ use mathlib.Core.List.{List, [], _∷_, _++_}
 use lib.ListN.{length, drop}
 use Rattle.memory.specs.Image.{bytes}
 use Rattle.words.specs.Scan.{linesOf}
-use Rattle.acts.specs.Orders.{lineOrder}
+use Rattle.text_lines.specs.Orders.{lineOrder}
 use Rattle.text.specs.Sheet.{Sheet, Outcome, Went, Stopped, blankSheet, follow}
 
 pub data Reading : Type 0 where

@@ -3,7 +3,7 @@ use Prim.Native.Nat.{ℕ, _+_, _≤_}
 use mathlib.Core.Path.{_≡_}
 use mathlib.Core.List.{List, _++_}
 use lib.ListN.{length, take, drop}
-use Rattle.acts.specs.declared.Change.{Change}
+use Rattle.text_lines.specs.declared.Change.{Change}
 use Rattle.text.specs.Sheet.{Sheet, Outcome, Went, Stopped, changedImage, changedFuses}
 use Rattle.text.specs.Meaning.{Reading, Whole, Amiss}
 use Rattle.text.specs.declared.sheet.Progress.{Progress}

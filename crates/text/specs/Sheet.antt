@@ -10,12 +10,12 @@ use Rattle.rules.specs.Refusals.{longest}
 use Rattle.maker.specs.Act.{made}
 use Rattle.maker.specs.declared.Made.{Made}
 use Rattle.maker.specs.declared.Made.the-variants as maker
-use Rattle.acts.specs.declared.Change.{Change}
-use Rattle.acts.specs.declared.Change.the-variants.{Fill, Bytes, Fuses}
-use Rattle.acts.specs.declared.Act.{Act}
-use Rattle.acts.specs.declared.Order.{Order}
-use Rattle.acts.specs.declared.Order.the-variants as order
-use Rattle.waveforms.specs.Steps.{stepsOf, refusalOf}
+use Rattle.text_lines.specs.declared.Change.{Change}
+use Rattle.text_lines.specs.declared.Change.the-variants.{Fill, Bytes, Fuses}
+use Rattle.text_lines.specs.declared.Act.{Act}
+use Rattle.text_lines.specs.declared.Order.{Order}
+use Rattle.text_lines.specs.declared.Order.the-variants as order
+use Rattle.text_steps.specs.Steps.{stepsOf, refusalOf}
 
 pub record Sheet : Type 0 where
   pub image : List ℕ

@@ -28,7 +28,7 @@ pub(crate) fn read_lines(text: &[u8], image: &mut [u8], steps: &mut [u8]) -> Rea
     loop {
         let rest = &text[from..];
         let end = words::ahead(Stop::LineEnd, rest);
-        let order = acts::line_order(&rest[..end]);
+        let order = text_lines::line_order(&rest[..end]);
         match sheet::follow(order, p, image, steps) {
             Step::On(next) => p = next,
             Step::Stopped(reason) => return Read::Amiss { line, reason },

@@ -1,8 +1,8 @@
 // What a text has set down so far, order by order.
-use acts::Act;
-use acts::Change;
-use acts::Order;
 use maker::Made;
+use text_lines::Act;
+use text_lines::Change;
+use text_lines::Order;
 ghost use Prim.Native.Nat.{ℕ, _*_, _/_, _%_, _^_, _≤_};
 ghost use mathlib.Core.Path.{_≡_};
 ghost use mathlib.Core.List.{List};
@@ -102,7 +102,7 @@ fn drive(act: Act, p: Progress, image: &[u8], steps: &mut [u8]) -> Step
 {
     let count = p.count;
     let lines = present(&steps[..count]);
-    let made = waveforms::make(act, lines, image[12], &mut steps[count..]);
+    let made = text_steps::make(act, lines, image[12], &mut steps[count..]);
     match made {
         Made::Wrote(n) => Step::On(Progress {
             fuses: p.fuses,

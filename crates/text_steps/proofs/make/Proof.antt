@@ -1,0 +1,26 @@
+use mathlib.Core.Path.{refl}
+use Rattle.maker.specs.Act.{made, inBuffer}
+use Rattle.text_steps.specs.Steps.{refusalOf}
+use borrow.Author.Needs.{needs}
+use Rattle.text_steps.proofs.make.Statement.{statement}
+use Rattle.text_steps.proofs.make.Tie as tie
+
+starts-at-requires : tie.Need-starts-at-requires
+starts-at-requires c κs = search needs
+
+made-requires : tie.Need-made-requires
+made-requires c κs = search needs
+
+same-length : tie.Need-same-length
+same-length c = search needs
+
+returns : tie.Need-returns
+unfolding refusalOf
+returns c = rw (← c .before .before .before .before .before .starts-at .ensures, c .before .before .before .before .if1 .taken) (c .before .before .made .ensures)
+
+returns-2 : tie.Need-returns-2
+unfolding refusalOf made inBuffer
+returns-2 c = rw (← c .before .starts-at .ensures, c .if1 .left) (record { answer = refl; bytes = refl })
+
+pub make-spec : {M : Type 1} → statement M
+make-spec = tie.close (tie.spec starts-at-requires made-requires same-length returns returns-2)
