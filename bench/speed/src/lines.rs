@@ -160,6 +160,28 @@ fn personalise() -> Line {
     waveform.line("block personalisation", memory)
 }
 
-pub fn all() -> [Line; 4] {
-    [walk(), read_out(), random(), personalise()]
+/// Opened, and most zones rewritten: each word erased, and every other bit of
+/// it written.
+fn rewrite() -> Line {
+    let memory = patterned();
+    let mut waveform = Waveform::new(memory, true);
+    waveform.open();
+    waveform.act(maker::reset);
+    // IZ; then CPZ, AZ, EZ, EC and MTZ. The code and its tries stay.
+    for address in (16..80).chain(112..1376) {
+        waveform.walk_to(address);
+        if address % 16 == 0 {
+            waveform.act(|fus, out| maker::program(true, fus, out));
+        }
+        if address % 2 == 0 {
+            waveform.act(|fus, out| maker::program(false, fus, out));
+        }
+    }
+    let [iz, az, mtz] = [2, 100, 171].map(|byte| waveform.card.memory[byte]);
+    assert_eq!([iz, az, mtz], [0x55; 3], "the zones are rewritten");
+    waveform.line("writes and erases", memory)
+}
+
+pub fn all() -> [Line; 5] {
+    [walk(), read_out(), random(), personalise(), rewrite()]
 }

@@ -2,45 +2,45 @@
 use mathlib.Core.Path.{refl}
 use Rattle.rules.specs.Computing.{the-card}
 use Rattle.rules.specs.CaseForms.{sample}
-use Rattle.card.specs.Contracts.{stepAnswer, stepMemory, runAnswer, runMemory, runAnswers, flagsOf, flagsNumber, flagsHeld}
+use Rattle.card.specs.Contracts.{stepLeaves, stepAnswer, runLeaves, runAnswers, runRefused, flagsOf, flagsRefused, flagsHeld}
 use Rattle.card.specs.Cases.{Steps-answer, Runs-answer, Flags-told}
 
 pub steps-answer : Steps-answer
-unfolding the-card sample stepAnswer stepMemory
+unfolding the-card sample stepLeaves stepAnswer
 steps-answer = (
-  record { answer = refl; memory = refl },
-  record { answer = refl; memory = refl },
-  record { answer = refl; memory = refl },
-  record { answer = refl; memory = refl },
-  record { answer = refl; memory = refl },
-  record { answer = refl; memory = refl },
-  record { answer = refl; memory = refl },
-  record { answer = refl; memory = refl },
-  record { answer = refl; memory = refl },
-  record { answer = refl; memory = refl },
-  record { answer = refl; memory = refl },
-  record { answer = refl; memory = refl },
-  record { answer = refl; memory = refl },
-  record { answer = refl; memory = refl },
+  record { card = refl; answer = refl },
+  record { card = refl; answer = refl },
+  record { card = refl; answer = refl },
+  record { card = refl; answer = refl },
+  record { card = refl; answer = refl },
+  record { card = refl; answer = refl },
+  record { card = refl; answer = refl },
+  record { card = refl; answer = refl },
+  record { card = refl; answer = refl },
+  record { card = refl; answer = refl },
+  record { card = refl; answer = refl },
+  record { card = refl; answer = refl },
+  record { card = refl; answer = refl },
+  record { card = refl; answer = refl },
 )
 
 pub runs-answer : Runs-answer
-unfolding the-card sample runAnswer runMemory runAnswers
+unfolding the-card sample runLeaves runAnswers runRefused
 runs-answer = (
-  record { answer = refl; memory = refl; pins = refl },
-  record { answer = refl; memory = refl; pins = refl },
-  record { answer = refl; memory = refl; pins = refl },
-  record { answer = refl; memory = refl; pins = refl },
-  record { answer = refl; memory = refl; pins = refl },
-  record { answer = refl; memory = refl; pins = refl },
-  record { answer = refl; memory = refl; pins = refl },
-  record { answer = refl; memory = refl; pins = refl },
-  record { answer = refl; memory = refl; pins = refl },
-  record { answer = refl; memory = refl; pins = refl },
-  record { answer = refl; memory = refl; pins = refl },
-  record { answer = refl; memory = refl; pins = refl },
+  record { card = refl; done = refl; refusal = refl; pins = refl },
+  record { card = refl; done = refl; refusal = refl; pins = refl },
+  record { card = refl; done = refl; refusal = refl; pins = refl },
+  record { card = refl; done = refl; refusal = refl; pins = refl },
+  record { card = refl; done = refl; refusal = refl; pins = refl },
+  record { card = refl; done = refl; refusal = refl; pins = refl },
+  record { card = refl; done = refl; refusal = refl; pins = refl },
+  record { card = refl; done = refl; refusal = refl; pins = refl },
+  record { card = refl; done = refl; refusal = refl; pins = refl },
+  record { card = refl; done = refl; refusal = refl; pins = refl },
+  record { card = refl; done = refl; refusal = refl; pins = refl },
+  record { card = refl; done = refl; refusal = refl; pins = refl },
 )
 
 pub flags-told : Flags-told
-unfolding the-card flagsOf flagsNumber flagsHeld
+unfolding the-card flagsOf flagsRefused flagsHeld
 flags-told = (refl, refl, refl)

@@ -1,113 +1,104 @@
--- What the public calls answer, from what the loop has come to.
-use Prim.Native.Nat.{ℕ, _≤_}
+-- What the public calls answer, from what the steps inside have come to.
+use Prim.Native.Nat.{ℕ}
+use native.Mathlib.Omega.{arith}
 use mathlib.Core.Path.{_≡_, refl, sym, ap, _∙_}
-use mathlib.Core.Bool.{Bool, true, false, cond, not}
+use mathlib.Core.Bool.{Bool, true, false, cond}
 use mathlib.Core.List.{List, [], _∷_}
-use lib.Dec.{eqb, ltb}
+use lib.Dec.{eqb}
 use lib.ListN.{length, getD}
-use borrow.Author.Tests.{ne-eqb, eqb-true, eqb-false, ltb-false}
+use borrow.Author.Tests.{ne-eqb, eqb-true, eqb-false}
+use Rattle.rules.specs.declared.Answer.{Answer}
 use Rattle.rules.specs.declared.Answer.the-variants.{Pin, Refused}
 use Rattle.rules.specs.Halves.{Card}
 use Rattle.rules.specs.Refusals.{refusal}
 use Rattle.rules.specs.Steps.{next, pin}
-use Rattle.rules.specs.Card.{added, ended, run, stepped, answered, answersIn}
-use Rattle.rules.proofs.Tests.{peel}
-use Rattle.volatile.specs.declared.Volatile.{Volatile}
-use Rattle.volatile.specs.Packed.{unpacked, cardOf}
-use Rattle.card.specs.declared.Ran.{Ran}
-use Rattle.card.specs.Moves.{ranTo, Runs}
-use Rattle.refusals.specs.Numbers.{stateNumber, runNumber}
-use Rattle.card.specs.Contracts.{runAnswer, runMemory, runAnswers, stepAnswer, stepMemory}
-use Rattle.card.specs.Contracts.{StepAnswered, RunAnswered}
+use Rattle.rules.specs.Card.{refusalIn, pinIn, Ran, added, ended, run, stepped, answered, answersIn}
+use Rattle.volatile.specs.Packed.{unpacked, Given, cardOf, handedBack}
+use Rattle.refusals.specs.Before.{givenRefusal, givenRunRefusal}
+use Rattle.card.specs.declared.Ran as Declared
+use Rattle.card.specs.Moves.{Steps}
+use Rattle.card.specs.Contracts.{stepLeaves, stepAnswer, StepTold, StepAnswered, runLeaves, runAnswers, runRefused, RunAnswered}
+use Rattle.card.specs.declared.Told.{Told}
 
--- A chain of numbers that comes to 0 has none.
-none-of : (k : ℕ) (r : ℕ) → cond (not (eqb k 0)) k r ≡ 0 → k ≡ 0
-none-of k r e = go (eqb k 0) refl
-  where
-    go : (t : Bool) → eqb k 0 ≡ t → k ≡ 0
-    go true q = eqb-true k 0 q
-    go false q = rw q at e
+pub run-barred :
+    (g : Given) (steps answers : List ℕ) (k : ℕ) → givenRunRefusal g (length steps) (length answers) ≡ k → (k ≡ 0 → ⊥) →
+    RunAnswered g steps answers (record { fuses = g .fuses; volatile = g .half; done = 0; refusal = k }) (g .memory) answers
+unfolding runLeaves runAnswers runRefused answersIn
+run-barred g steps answers k e h =
+    let no = ne-eqb k 0 h in
+    record { card = rw (e, no); done = rw (e, no); refusal = rw (e, no); pins = rw (e, no) }
 
-module _ (m : List ℕ) (fuses : ℕ) (v : Volatile) where
-  module _ (steps answers : List ℕ) where
-    pub run-barred :
-        (k : ℕ) → runNumber m fuses v (length steps) (length answers) ≡ k → (k ≡ 0 → ⊥) →
-        RunAnswered m fuses v steps answers (record { fuses = fuses; volatile = v; done = 0; refusal = k }) m answers
-    unfolding runAnswer runMemory runAnswers
-    run-barred k e h =
-        let no = ne-eqb k 0 h in
-        record { answer = rw (e, no); memory = rw (e, no); pins = rw (e, no) }
+-- The numbers tell the answer.
+pub refused-as : (x : Answer) → (refusalIn x ≡ 0 → ⊥) → Refused (refusalIn x) ≡ x
+unfolding refusalIn
+refused-as (Pin b) h = absurd (h refl)
+refused-as (Refused j) h = refl
 
-    pub run-done :
-        (r : Ran) (after told : List ℕ) → runNumber m fuses v (length steps) (length answers) ≡ 0 → Runs m fuses v steps answers r after told →
-        RunAnswered m fuses v steps answers r after told
-    unfolding runAnswer runMemory runAnswers ranTo
-    run-done r after told e runs =
-        record { answer = rw e (runs .ran-is); memory = rw e (runs .memory-is); pins = rw e (runs .answers-are) }
+module _ (g : Given) (n : ℕ) where
+  pub step-barred :
+      (k : ℕ) → givenRefusal g ≡ k → (k ≡ 0 → ⊥) →
+      StepTold g n (record { fuses = g .fuses; volatile = g .half; pin = 1; refusal = k }) (g .memory)
+  unfolding stepLeaves stepAnswer pinIn refusalIn
+  step-barred k e h =
+      let no = ne-eqb k 0 h in
+      record { card = rw (e, no); pin = rw (e, no); refusal = rw (e, no) }
 
-  -- What the loop takes for granted, from the numbers that were not given.
-  pub sound-at : (steps room : ℕ) → runNumber m fuses v steps room ≡ 0 → stateNumber m fuses v ≡ 0
-  unfolding runNumber
-  sound-at steps room e = none-of (stateNumber m fuses v) _ e
+  -- A step of a sound card that is accepted.
+  pub step-done :
+      {p shown : ℕ} {left : Given} → givenRefusal g ≡ 0 → Steps g p n left shown 0 →
+      StepTold g n (record { fuses = left .fuses; volatile = left .half; pin = shown; refusal = 0 }) (left .memory)
+  unfolding stepLeaves stepAnswer stepped answered pinIn refusalIn
+  step-done z did =
+      let none = sym (did .refused) in
+      let to = did .accepted refl in
+      record { card = rw (z, none) (to .0); pin = rw (z, none) (to .1); refusal = rw (z, none) }
 
-  pub room-at : (steps room : ℕ) → runNumber m fuses v steps room ≡ 0 → steps ≤ room
-  unfolding runNumber
-  room-at steps room e =
-      let long = peel (ltb 4096 steps) 17 _ (rw (none-of (stateNumber m fuses v) _ e) at e) in
-      ltb-false room steps (peel (ltb room steps) 18 0 (long .1) .0)
+  -- One step is a run of one.
+  abbrev c : Card
+  c = cardOf g
 
-  module _ (n : ℕ) where
-    pub step-barred :
-        (k : ℕ) → stateNumber m fuses v ≡ k → (k ≡ 0 → ⊥) →
-        StepAnswered m fuses v n (record { fuses = fuses; volatile = v; answer = Refused k }) m
-    unfolding stepAnswer stepMemory
-    step-barred k e h =
-        let no = ne-eqb k 0 h in
-        record { answer = rw (e, no); memory = rw (e, no) }
+  abbrev k : ℕ
+  k = refusal (unpacked (g .half)) n
 
-    -- One step is a run of one.
-    module _ (r : Ran) (after told : List ℕ) (sound : stateNumber m fuses v ≡ 0) (runs : Runs m fuses v (n ∷ []) (1 ∷ []) r after told) where
-      abbrev c : Card
-      c = cardOf m fuses v
+  one-run : (t : Bool) → eqb k 0 ≡ t → run c (n ∷ []) ≡ cond t (added (pin (next c n)) (ended (next c n) 0)) (ended c k)
+  unfolding run
+  one-run t e = rw e
 
-      abbrev k : ℕ
-      k = refusal (unpacked v) n
+  pub fits : givenRefusal g ≡ 0 → givenRunRefusal g 1 1 ≡ 0
+  unfolding givenRunRefusal
+  fits z = rw z
 
-      one-run : (t : Bool) → eqb k 0 ≡ t → run c (n ∷ []) ≡ cond t (added (pin (next c n)) (ended (next c n) 0)) (ended c k)
-      unfolding run
-      one-run t e = rw e
+  pub step-of-run :
+      {r : Declared.Ran} {after told : List ℕ} → givenRefusal g ≡ 0 → RunAnswered g (n ∷ []) (1 ∷ []) r after told →
+      StepTold g n (record { fuses = r .fuses; volatile = r .volatile; pin = getD told 0 0; refusal = r .refusal }) after
+  unfolding stepLeaves stepAnswer stepped answered pinIn refusalIn runLeaves runAnswers runRefused answersIn
+  step-of-run {r} {after} {told} z ran = go (eqb k 0) refl
+    where
+      go :
+          (t : Bool) → eqb k 0 ≡ t →
+          StepTold g n (record { fuses = r .fuses; volatile = r .volatile; pin = getD told 0 0; refusal = r .refusal }) after
+      go true e =
+          record {
+            card = ran .card ∙ rw (fits z, z, one-run true e, e);
+            pin = rw (ran .pins, fits z, z, one-run true e, e);
+            refusal = ran .refusal ∙ rw (fits z, z, one-run true e, e);
+          }
+      go false e =
+          record {
+            card = ran .card ∙ rw (fits z, z, one-run false e, e);
+            pin = rw (ran .pins, fits z, z, one-run false e, e);
+            refusal = ran .refusal ∙ rw (fits z, z, one-run false e, e);
+          }
 
-      ran-as : (t : Bool) → eqb k 0 ≡ t → r ≡ ranTo (cond t (added (pin (next c n)) (ended (next c n) 0)) (ended c k))
-      ran-as t e = runs .ran-is ∙ ap ranTo (one-run t e)
+  -- None is a refusal by 0.
+  pub pinned-as : refusalIn (stepAnswer g n) ≡ 0 → Pin (pinIn (stepAnswer g n)) ≡ stepAnswer g n
+  unfolding stepAnswer answered refusalIn pinIn
+  pinned-as = go (eqb (givenRefusal g) 0) (eqb k 0) refl refl
+    where
+      x : (t u : Bool) → Answer
+      x t u = cond t (cond u (Pin (pin (next c n))) (Refused k)) (Refused (givenRefusal g))
 
-      pub step-refused :
-          (r .refusal ≡ 0 → ⊥) →
-          StepAnswered m fuses v n (record { fuses = r .fuses; volatile = r .volatile; answer = Refused (r .refusal) }) after
-      unfolding stepAnswer stepMemory stepped answered ranTo
-      step-refused h = go (eqb k 0) refl
-        where
-          go :
-              (t : Bool) → eqb k 0 ≡ t →
-              StepAnswered m fuses v n (record { fuses = r .fuses; volatile = r .volatile; answer = Refused (r .refusal) }) after
-          go true e = absurd (h (ap (λ (x : Ran). x .refusal) (ran-as true e)))
-          go false e =
-              record {
-                answer = rw (sound, e, ran-as false e);
-                memory = rw (sound, e) (runs .memory-is ∙ rw (one-run false e));
-              }
-
-      pub step-done :
-          r .refusal ≡ 0 →
-          StepAnswered m fuses v n (record { fuses = r .fuses; volatile = r .volatile; answer = Pin (getD told 0 0) }) after
-      unfolding stepAnswer stepMemory stepped answered ranTo answersIn
-      step-done z = go (eqb k 0) refl
-        where
-          go :
-              (t : Bool) → eqb k 0 ≡ t →
-              StepAnswered m fuses v n (record { fuses = r .fuses; volatile = r .volatile; answer = Pin (getD told 0 0) }) after
-          go false e = absurd (eqb-false k 0 e (sym (ap (λ (x : Ran). x .refusal) (ran-as false e)) ∙ z))
-          go true e =
-              record {
-                answer = rw (sound, e, ran-as true e, runs .answers-are, one-run true e);
-                memory = rw (sound, e) (runs .memory-is ∙ rw (one-run true e));
-              }
+      go : (t u : Bool) → eqb (givenRefusal g) 0 ≡ t → eqb k 0 ≡ u → refusalIn (x t u) ≡ 0 → Pin (pinIn (x t u)) ≡ x t u
+      go true true e f z = refl
+      go true false e f z = absurd (eqb-false k 0 f z)
+      go false u e f z = absurd (eqb-false (givenRefusal g) 0 e z)

@@ -1,28 +1,30 @@
 -- A step of a ready card, line by line: the law that each `return` of the code cites.
-use Prim.Native.Nat.{ℕ, _≤_, _<_}
+use Prim.Native.Nat.{ℕ, suc, _≤_, _<_}
 use native.Mathlib.Omega.{arith}
 use mathlib.Core.Path.{_≡_, refl, sym, ap, _∙_}
-use mathlib.Core.Bool.{Bool, true, false, cond, not, _&&_, _||_, and-false}
-use mathlib.Core.List.{List, []}
-use lib.Dec.{ltb}
-use lib.Bits.{bitXor}
-use borrow.Author.Tests.{lt-ltb, ltb-false, ne-eqb}
+use mathlib.Core.Bool.{Bool, true, false, cond, not, _&&_, _||_, and-true, and-false, or-true, false≢true}
+use mathlib.Core.List.{[]}
+use lib.Dec.{eqb, ltb}
+use lib.Bits.{bitXor, bitAnd}
+use borrow.Author.Tests.{lt-ltb, le-ltb, ltb-false, eq-eqb, ne-eqb, not-true, not-false}
+use Rattle.memory.specs.Image.{bit}
 use Rattle.rules.specs.Halves as Halves
 use Rattle.rules.specs.Halves.{Card, off}
-use Rattle.rules.specs.Lines.{Line, VCC, RST, CLK, PGM, IO, FUS, place, high, Same, Rises, Falls, Many, change, edge}
+use Rattle.rules.specs.Lines.{Line, VCC, RST, CLK, PGM, IO, FUS, place, mask, high, Edge, Same, Rises, Falls, Many, change, edge}
 use Rattle.rules.specs.Rights.{held}
-use Rattle.rules.specs.Refusals.{madeUp, many, edgeRefusal, refusal}
+use Rattle.rules.specs.Refusals.{anySet, madeUp, many, edgeRefusal, refusal}
 use Rattle.rules.specs.Match.{arrived}
-use Rattle.rules.specs.Steps.{follows, withVolatile, vccFalls, clkRises, rstFalls, unlatched, clocked, clkFalls, powered, next, driven, pin}
+use Rattle.rules.specs.Steps.{follows, withVolatile, vccFalls, clkRises, rstFalls, unlatched, clocked, clkFalls, powered, next}
+use Rattle.rules.specs.Steps.{driven, pinValue, pin}
 use Rattle.rules.proofs.Tests.{neither, edge-same}
 use Rattle.rules.proofs.Soundness.{Sound, sound}
 use Rattle.volatile.specs.declared.Volatile.{Volatile}
-use Rattle.volatile.specs.Packed.{packed, unpacked, cardOf, madeUpWord, operationNow}
-use Rattle.volatile.proofs.Packing.{packed-unpacked}
-use Rattle.card.specs.Moves.{Ready, moved, movedTo, programmedCard, Steps}
+use Rattle.volatile.specs.Packed.{packed, unpacked, Given, cardOf, handedBack, withHalf, madeUpWord}
+use Rattle.volatile.proofs.Packing.{unpacked-packed, packed-unpacked}
+use Rattle.card.specs.Moves.{Ready, Steps, programmedCard}
 use Rattle.card.proofs.Turned.{by-difference, edge-by-difference, small-step, Turned, turned-by}
-use Rattle.card.proofs.EdgeLaws.{released, goes-to, stays, reads, keeps, refusal-at, next-at}
-use Rattle.card.proofs.EdgeLaws.{same-number, clk-number, pgm-number, rst-number, fus-number, io-number, vcc-number}
+use Rattle.card.proofs.Masks.{vcc-clk-pgm, vcc-rst, clk-pgm, high-low}
+use Rattle.card.proofs.EdgeRefusals.{same-refusal, clk-refusal, pgm-refusal, rst-refusal, fus-refusal, io-refusal, vcc-refusal}
 
 -- 9's clauses, of a packed half.
 pub flags-small : (v : Volatile) → madeUpWord v ≡ false → v .flags < 128
@@ -42,55 +44,143 @@ same-sides : {A : Type 0} (t : Bool) (x : A) → cond t x x ≡ x
 same-sides true x = refl
 same-sides false x = refl
 
-module _ (m : List ℕ) (fuses : ℕ) (v : Volatile) (p n : ℕ) (ready : Ready m fuses v p) where
-  abbrev w : Halves.Volatile
-  w = unpacked v
+programming-set : (v : Halves.Volatile) → v .programming ≡ true → anySet v ≡ true
+unfolding anySet
+programming-set v e =
+    rw (e, or-true (v .latch), or-true (v .matched), or-true (v .e1), or-true (v .r1), or-true (v .p1), or-true (v .sv), or-true (not (eqb (v .address) 0)))
 
-  abbrev l : ℕ
-  l = v .lines
+or-not : (a b : Bool) → not (a || b) ≡ (not a && not b)
+or-not true b = refl
+or-not false b = refl
 
-  abbrev card : Card
-  card = cardOf m fuses v
+-- Without VCC, with RST or PGM high, or in programming the line is released.
+released : (c : Card) → driven (c .fuses) (c .volatile) ≡ false → pin c ≡ 1
+unfolding pin pinValue
+released c e = rw e
 
-  levels-small : l < 64
+-- The pin of a card with this packed half, as it is read.
+abbrev pub pinAt : Given → Volatile → ℕ
+pinAt g v = pinValue (driven (g .fuses) (unpacked v)) (bit (g .memory) (v .address))
+
+-- What 9 lets pass of a ready card.
+module _ {g : Given} {p : ℕ} (ready : Ready g p) where
+  half-sound : Sound (unpacked (g .half))
+  half-sound = sound-half (g .half) (ready .sound)
+
+  levels-small : g .half .lines < 64
   unfolding unpacked
-  levels-small = sound-half v (ready .sound) .levels
+  levels-small = half-sound .levels
 
-  pub line-turned : (x : Line) (d : ℕ) → d < 64 → by-difference d l ≡ change x l → bitXor l n ≡ d → Turned x l n
-  line-turned x d h is e = turned-by x l n d levels-small e h is
-
-  pub address-within : v .address ≤ 1519
+  pub address-within : g .half .address ≤ 1519
   unfolding unpacked
-  address-within = sound-half v (ready .sound) .placed .within
+  address-within = half-sound .placed .within
 
   -- With CLK low no programming is under way.
-  pub idle : high CLK l ≡ false → w .programming ≡ false
+  pub idle : high CLK (g .half .lines) ≡ false → unpacked (g .half) .programming ≡ false
   unfolding unpacked
-  idle k = off-then (w .programming) (high CLK l) (sound-half v (ready .sound) .wired .under-way) k
+  idle k = off-then (unpacked (g .half) .programming) (high CLK (g .half .lines)) (half-sound .wired .under-way) k
+
+  -- In programming CLK is high and VCC on.
+  pub clock-high : unpacked (g .half) .programming ≡ true → high CLK (g .half .lines) ≡ true
+  unfolding unpacked
+  clock-high q = half-sound .wired .under-way q
+
+  pub power-on : unpacked (g .half) .programming ≡ true → high VCC (g .half .lines) ≡ true
+  unfolding unpacked
+  power-on q = not-false (high VCC (g .half .lines)) (rw (programming-set (unpacked (g .half)) q, and-true (not (high VCC (g .half .lines)))) at (half-sound .unpowered))
+
+module _ {g : Given} {p : ℕ} (ready : Ready g p) (n : ℕ) where
+  abbrev w : Halves.Volatile
+  w = unpacked (g .half)
+
+  abbrev l : ℕ
+  l = g .half .lines
+
+  abbrev card : Card
+  card = cardOf g
+
+  -- An accepted step leads to the next card; a refused one leaves all as it was.
+  pub goes-to : (after : Card) → refusal w n ≡ 0 → next card n ≡ after → Steps g p n (handedBack after) (pin after) 0
+  goes-to after e q = record { refused = sym e; accepted = λ _. (ap handedBack (sym q), ap pin (sym q)); kept = λ h. absurd (h refl) }
+
+  pub stays : (k : ℕ) → refusal w n ≡ suc k → Steps g p n g p (suc k)
+  stays k e = record { refused = sym e; accepted = λ z. absurd (ne (z)); kept = λ _. (refl, refl) }
+    where
+      ne : suc k ≡ 0 → ⊥
+      ne z = omega (arith, z)
+
+  -- An accepted step that changes the volatile half alone, to u.
+  pub record Goes (u : Halves.Volatile) : Type 0 where
+    pub none : refusal w n ≡ 0
+    pub there : next card n ≡ withVolatile card u
+
+  -- Its pin is read, or is the one at hand.
+  pub reads : {u : Halves.Volatile} → Goes u → Steps g p n (withHalf g (packed u)) (pinAt g (packed u)) 0
+  unfolding pin packed
+  reads {u} to = rw (unpacked-packed u) (goes-to (withVolatile card u) (to .none) (to .there))
+
+  pub keeps : {u : Halves.Volatile} → Goes u → p ≡ pin (withVolatile card u) → Steps g p n (withHalf g (packed u)) p 0
+  keeps {u} to h = rw (sym h) at (goes-to (withVolatile card u) (to .none) (to .there))
+
+  -- The difference is one line's mask.
+  pub turned : (x : Line) → bitXor l n ≡ mask x → Turned x l n
+  unfolding by-difference change mask place
+  turned VCC e = turned-by VCC l n 1 (levels-small ready) e (omega arith) refl
+  turned RST e = turned-by RST l n 2 (levels-small ready) e (omega arith) refl
+  turned CLK e = turned-by CLK l n 4 (levels-small ready) e (omega arith) refl
+  turned PGM e = turned-by PGM l n 8 (levels-small ready) e (omega arith) refl
+  turned IO e = turned-by IO l n 16 (levels-small ready) e (omega arith) refl
+  turned FUS e = turned-by FUS l n 32 (levels-small ready) e (omega arith) refl
+
+  -- The refusal and the next card, by the edge.
+  refusal-at : (e : Edge) → n < 64 → edge l n ≡ e → refusal w n ≡ edgeRefusal e l (w .programming)
+  unfolding refusal unpacked
+  refusal-at e h q = rw (le-ltb 63 n (omega arith), q)
+
+  next-at :
+      (e : Edge) (t : Bool) → edge l n ≡ e → high VCC l ≡ t → next card n ≡ cond t (powered e n card) (withVolatile card (follows n w))
+  unfolding next unpacked
+  next-at e t q h = rw (q, h)
 
   -- A line x that is turned over has this refusal.
-  number-of : (x : Line) (k : ℕ) → Turned x l n → edgeRefusal (change x l) l (w .programming) ≡ k → refusal w n ≡ k
-  number-of x k t e = refusal-at m fuses v p n (change x l) (t .small) (t .edge-is) ∙ e
+  refused-by : {x : Line} (k : ℕ) → Turned x l n → edgeRefusal (change x l) l (w .programming) ≡ k → refusal w n ≡ k
+  refused-by {x} k t e = refusal-at (change x l) (t .small) (t .edge-is) ∙ e
 
-  -- What follows for a line that does no more than follow.
-  follows-next :
-      (x : Line) → Turned x l n → powered (Rises x) n card ≡ withVolatile card (follows n w) →
-      powered (Falls x) n card ≡ withVolatile card (follows n w) → next card n ≡ withVolatile card (follows n w)
+  -- It leads to what its edge does with VCC on; "Without VCC the lines only follow."
+  on-goes :
+      {x : Line} (u : Halves.Volatile) → Turned x l n → edgeRefusal (change x l) l (w .programming) ≡ 0 → high VCC l ≡ true →
+      powered (change x l) n card ≡ withVolatile card u → Goes u
+  on-goes {x} u t e h q = record { none = refused-by 0 t e; there = next-at (change x l) true (t .edge-is) h ∙ q }
+
+  off-goes : {x : Line} → Turned x l n → edgeRefusal (change x l) l (w .programming) ≡ 0 → high VCC l ≡ false → Goes (follows n w)
+  off-goes {x} t e h = record { none = refused-by 0 t e; there = next-at (change x l) false (t .edge-is) h }
+
+  -- A line that does no more than follow, with VCC and without.
+  follows-goes :
+      {x : Line} → Turned x l n → edgeRefusal (change x l) l (w .programming) ≡ 0 →
+      powered (Rises x) n card ≡ withVolatile card (follows n w) → powered (Falls x) n card ≡ withVolatile card (follows n w) →
+      Goes (follows n w)
   unfolding change
-  follows-next x t r f =
-      next-at m fuses v p n (change x l) (high VCC l) (t .edge-is) refl ∙
-      (ap (λ (y : Card). cond (high VCC l) y (withVolatile card (follows n w))) (go (high x l)) ∙ same-sides (high VCC l) (withVolatile card (follows n w)))
+  follows-goes {x} t e r f =
+      record {
+        none = refused-by 0 t e;
+        there =
+            next-at (change x l) (high VCC l) (t .edge-is) refl ∙
+            (ap (λ (y : Card). cond (high VCC l) y there) (go (high x l)) ∙ same-sides (high VCC l) there);
+      }
     where
-      go : (b : Bool) → powered (cond b (Falls x) (Rises x)) n card ≡ withVolatile card (follows n w)
+      there : Card
+      there = withVolatile card (follows n w)
+
+      go : (b : Bool) → powered (cond b (Falls x) (Rises x)) n card ≡ there
       go true = f
       go false = r
 
-  -- Without VCC the pin is released, whatever the lines do.
+  -- Without VCC, with RST or with PGM high the pin is released, whatever else.
   unpowered-pin : (u : Halves.Volatile) → high VCC (u .lines) ≡ false → pin (withVolatile card u) ≡ 1
   unfolding driven
   unpowered-pin u e = released (withVolatile card u) (rw e)
 
-  -- With RST high it is released too, and with PGM high.
   reset-pin : (u : Halves.Volatile) → high RST (u .lines) ≡ true → pin (withVolatile card u) ≡ 1
   unfolding driven
   reset-pin u e = released (withVolatile card u) (rw (e, and-false (high VCC (u .lines))))
@@ -101,208 +191,223 @@ module _ (m : List ℕ) (fuses : ℕ) (v : Volatile) (p n : ℕ) (ready : Ready 
 
   -- FUS.
   module _ (t : Turned FUS l n) where
-    pub fus-refused : (high VCC l && w .programming) ≡ true → Steps m fuses v p n (moved v fuses p 3) m
-    fus-refused h = stays m fuses v p n 2 (number-of FUS 3 t (fus-number l (w .programming) ∙ rw h))
+    pub fus-refused : w .programming ≡ true → Steps g p n g p 3
+    fus-refused q = stays 2 (refused-by 3 t (fus-refusal l (w .programming) ∙ rw (q, power-on ready q)))
 
-    pub fus-follows :
-        (high VCC l && w .programming) ≡ false →
-        Steps m fuses v p n (moved (packed (follows n w)) fuses (pin (cardOf m fuses (packed (follows n w)))) 0) m
+    pub fus-goes : w .programming ≡ false → Goes (follows n w)
     unfolding powered
-    fus-follows h =
-        reads m fuses v p n (follows n w) (number-of FUS 0 t (fus-number l (w .programming) ∙ rw h)) (follows-next FUS t refl refl)
+    fus-goes q = follows-goes t (fus-refusal l (w .programming) ∙ rw (q, and-false (high VCC l))) refl refl
 
   -- PGM.
   module _ (t : Turned PGM l n) where
-    pub pgm-refused : (high VCC l && (high CLK l && not (high PGM l))) ≡ true → Steps m fuses v p n (moved v fuses p 6) m
-    pgm-refused h = stays m fuses v p n 5 (number-of PGM 6 t (pgm-number l (w .programming) ∙ rw h))
+    rises-in-clk : (high VCC l && (high CLK l && not (high PGM l))) ≡ eqb (bitAnd n 13) 13
+    unfolding place
+    rises-in-clk = rw (← t .others VCC refl, ← t .others CLK refl, ← t .over) (sym (vcc-clk-pgm n))
 
-    pub pgm-follows :
-        (high VCC l && (high CLK l && not (high PGM l))) ≡ false →
-        Steps m fuses v p n (moved (packed (follows n w)) fuses (pin (cardOf m fuses (packed (follows n w)))) 0) m
+    pub pgm-refused : bitAnd n 13 ≡ 13 → Steps g p n g p 6
+    pgm-refused h = stays 5 (refused-by 6 t (pgm-refusal l (w .programming) ∙ rw (rises-in-clk, h)))
+
+    pub pgm-goes : (bitAnd n 13 ≡ 13 → ⊥) → Goes (follows n w)
     unfolding powered
-    pgm-follows h =
-        reads m fuses v p n (follows n w) (number-of PGM 0 t (pgm-number l (w .programming) ∙ rw h)) (follows-next PGM t refl refl)
+    pgm-goes h = follows-goes t (pgm-refusal l (w .programming) ∙ rw (rises-in-clk, ne-eqb (bitAnd n 13) 13 h)) refl refl
 
-  -- An accepted step that changes the volatile half alone, to u.
-  pub record Goes (u : Halves.Volatile) : Type 0 where
-    pub none : refusal w n ≡ 0
-    pub there : next card n ≡ withVolatile card u
+  -- I/O, which changes nothing that the pin looks at.
+  module _ (t : Turned IO l n) where
+    pub io-goes : Goes (follows n w)
+    unfolding powered
+    io-goes = follows-goes t (io-refusal l (w .programming)) refl refl
 
-  pub io-goes : Turned IO l n → Goes (follows n w)
-  unfolding powered
-  io-goes t = record { none = number-of IO 0 t (io-number l (w .programming)); there = follows-next IO t refl refl }
-
-  -- I/O changes nothing that the pin looks at.
-  pub io-follows : Turned IO l n → Steps m fuses v p n (moved (packed (follows n w)) fuses p 0) m
-  unfolding follows pin driven held place unpacked
-  io-follows t =
-      let g = io-goes t in
-      keeps m fuses v p n (follows n w) (g .none) (g .there) (ready .pinned ∙ same)
-    where
-      same : pin card ≡ pin (withVolatile card (follows n w))
-      same = rw (t .others VCC refl, t .others RST refl, t .others PGM refl, t .others FUS refl)
+    pub io-kept : p ≡ pin (withVolatile card (follows n w))
+    unfolding follows pin driven held place unpacked
+    io-kept = ready .pinned ∙ rw (t .others VCC refl, t .others RST refl, t .others PGM refl, t .others FUS refl)
 
   -- RST.
   module _ (t : Turned RST l n) where
-    pub rst-unpowered :
-        high VCC l ≡ false →
-        Steps m fuses v p n (moved (packed (follows n w)) fuses (pin (cardOf m fuses (packed (follows n w)))) 0) m
-    rst-unpowered h =
-        reads m fuses v p n (follows n w) (number-of RST 0 t (rst-number l (w .programming) ∙ rw h))
-        (next-at m fuses v p n (change RST l) false (t .edge-is) h)
+    pub rst-in-programming : w .programming ≡ true → Steps g p n g p 3
+    rst-in-programming q = stays 2 (refused-by 3 t (rst-refusal l (w .programming) ∙ rw (power-on ready q, q)))
 
-    pub rst-in-programming : high VCC l ≡ true → w .programming ≡ true → Steps m fuses v p n (moved v fuses p 3) m
-    rst-in-programming h q = stays m fuses v p n 2 (number-of RST 3 t (rst-number l (w .programming) ∙ rw (h, q)))
+    module _ (q : w .programming ≡ false) where
+      -- It rises, or VCC is off.
+      pub rst-follows : (bitAnd n 3 ≡ 1 → ⊥) → Goes (follows n w)
+      unfolding powered change place
+      rst-follows h = go (high VCC l) (high RST l) refl refl (rw (t .others VCC refl, t .over) at (sym (vcc-rst n) ∙ ne-eqb (bitAnd n 3) 1 h))
+        where
+          go : (a b : Bool) → high VCC l ≡ a → high RST l ≡ b → (a && not (not b)) ≡ false → Goes (follows n w)
+          go true true vcc rst e = absurd (false≢true (sym e))
+          go true false vcc rst e = on-goes (follows n w) t (rst-refusal l (w .programming) ∙ rw (vcc, q, rst)) vcc (rw rst)
+          go false b vcc rst e = off-goes t (rst-refusal l (w .programming) ∙ rw vcc) vcc
 
-    pub rst-rises :
-        high VCC l ≡ true → w .programming ≡ false → high RST l ≡ false →
-        Steps m fuses v p n (moved (packed (follows n w)) fuses (pin (cardOf m fuses (packed (follows n w)))) 0) m
-    unfolding powered change
-    rst-rises h q r =
-        reads m fuses v p n (follows n w) (number-of RST 0 t (rst-number l (w .programming) ∙ rw (h, q, r)))
-        (next-at m fuses v p n (change RST l) true (t .edge-is) h ∙ rw r)
+      module _ (falls : bitAnd n 3 ≡ 1) where
+        fell-low : (high VCC l ≡ true) × (high RST l ≡ true)
+        unfolding place
+        fell-low =
+            let e = high-low (high VCC n) (high RST n) (sym (vcc-rst n) ∙ eq-eqb (bitAnd n 3) 1 falls) in
+            (sym (t .others VCC refl) ∙ e .0, not-false (high RST l) (sym (t .over) ∙ e .1))
 
-    pub rst-refused :
-        high VCC l ≡ true → w .programming ≡ false → high RST l ≡ true → high CLK l ≡ true → Steps m fuses v p n (moved v fuses p 5) m
-    rst-refused h q r k = stays m fuses v p n 4 (number-of RST 5 t (rst-number l (w .programming) ∙ rw (h, q, r, k)))
+        pub rst-refused : high CLK n ≡ true → Steps g p n g p 5
+        unfolding place
+        rst-refused k =
+            stays 4 (refused-by 5 t (rst-refusal l (w .programming) ∙ rw (fell-low .0, q, fell-low .1, sym (t .others CLK refl) ∙ k)))
 
-    abbrev at-0 : Halves.Volatile
-    at-0 = arrived [] 0 0 (follows n w)
-
-    pub rst-falls :
-        high VCC l ≡ true → w .programming ≡ false → high RST l ≡ true → high CLK l ≡ false →
-        Steps m fuses v p n (moved (packed at-0) fuses (pin (cardOf m fuses (packed at-0))) 0) m
-    unfolding powered change rstFalls arrived
-    rst-falls h q r k =
-        reads m fuses v p n at-0 (number-of RST 0 t (rst-number l (w .programming) ∙ rw (h, q, r, k)))
-        (next-at m fuses v p n (change RST l) true (t .edge-is) h ∙ rw r)
+        pub rst-falls : high CLK n ≡ false → Goes (arrived [] 0 0 (follows n w))
+        unfolding powered change rstFalls arrived place
+        rst-falls k =
+            on-goes (arrived [] 0 0 (follows n w)) t
+            (rst-refusal l (w .programming) ∙ rw (fell-low .0, q, fell-low .1, sym (t .others CLK refl) ∙ k))
+            (fell-low .0) (rw (fell-low .1))
 
   -- VCC.
   module _ (t : Turned VCC l n) where
-    pub vcc-falls : high VCC l ≡ true → Steps m fuses v p n (moved (packed (off n)) fuses 1 0) m
-    unfolding powered change vccFalls off
-    vcc-falls h =
-        rw (unpowered-pin (off n) (t .over ∙ rw h)) at
-        (goes-to m fuses v p n (withVolatile card (off n)) (number-of VCC 0 t (vcc-number l (w .programming) ∙ rw h))
-        (next-at m fuses v p n (change VCC l) true (t .edge-is) h ∙ rw h))
+    vcc-falls : high VCC l ≡ true → Goes (off n)
+    unfolding powered change vccFalls
+    vcc-falls h = on-goes (off n) t (vcc-refusal l (w .programming) ∙ rw h) h (rw h)
 
-    pub vcc-refused : high VCC l ≡ false → (high CLK l || high PGM l) ≡ true → Steps m fuses v p n (moved v fuses p 7) m
-    vcc-refused h k = stays m fuses v p n 6 (number-of VCC 7 t (vcc-number l (w .programming) ∙ rw (h, k)))
+    off-pin : high VCC n ≡ false → pin (withVolatile card (off n)) ≡ 1
+    unfolding off
+    off-pin e = unpowered-pin (off n) e
 
-    pub vcc-rises :
-        high VCC l ≡ false → (high CLK l || high PGM l) ≡ false →
-        Steps m fuses v p n (moved (packed (follows n w)) fuses (pin (cardOf m fuses (packed (follows n w)))) 0) m
-    vcc-rises h k =
-        reads m fuses v p n (follows n w) (number-of VCC 0 t (vcc-number l (w .programming) ∙ rw (h, k)))
-        (next-at m fuses v p n (change VCC l) false (t .edge-is) h)
+    pub vcc-off : high VCC n ≡ false → Steps g p n (withHalf g (packed (off n))) 1 0
+    vcc-off e =
+        let goes = vcc-falls (not-false (high VCC l) (sym (t .over) ∙ e)) in
+        rw (off-pin e) at (goes-to (withVolatile card (off n)) (goes .none) (goes .there))
 
-  -- CLK's rise with PGM low leaves the pin as it was.
-  rising-pin : Turned CLK l n → high PGM l ≡ false → w .programming ≡ false → pin card ≡ pin (withVolatile card (clkRises n w))
-  unfolding clkRises pin driven held place unpacked
-  rising-pin t g q = rw (t .others VCC refl, t .others RST refl, t .others PGM refl, t .others FUS refl, g, q)
+    module _ (e : high VCC n ≡ true) where
+      was-off : high VCC l ≡ false
+      was-off = not-true (high VCC l) (sym (t .over) ∙ e)
+
+      lines-up : not (high CLK l || high PGM l) ≡ eqb (bitAnd n 12) 0
+      unfolding place
+      lines-up = rw (← t .others CLK refl, ← t .others PGM refl) (or-not (high CLK n) (high PGM n) ∙ sym (clk-pgm n))
+
+      pub vcc-refused : (bitAnd n 12 ≡ 0 → ⊥) → Steps g p n g p 7
+      vcc-refused h =
+          let up = not-false (high CLK l || high PGM l) (lines-up ∙ ne-eqb (bitAnd n 12) 0 h) in
+          stays 6 (refused-by 7 t (vcc-refusal l (w .programming) ∙ rw (was-off, up)))
+
+      pub vcc-rises : bitAnd n 12 ≡ 0 → Goes (follows n w)
+      vcc-rises h =
+          let low = not-true (high CLK l || high PGM l) (lines-up ∙ eq-eqb (bitAnd n 12) 0 h) in
+          off-goes t (vcc-refusal l (w .programming) ∙ rw (was-off, low)) was-off
 
   -- CLK.
   module _ (t : Turned CLK l n) where
-    pub clk-unpowered-goes : high VCC l ≡ false → Goes (follows n w)
-    clk-unpowered-goes h =
-        record {
-          none = number-of CLK 0 t (clk-number l (w .programming) ∙ rw (h, and-false (high CLK l)));
-          there = next-at m fuses v p n (change CLK l) false (t .edge-is) h;
-        }
+    same-vcc : (b : Bool) → high VCC n ≡ b → high VCC l ≡ b
+    unfolding place
+    same-vcc b e = sym (t .others VCC refl) ∙ e
 
-    pub clk-unpowered : high VCC l ≡ false → Steps m fuses v p n (moved (packed (follows n w)) fuses p 0) m
-    unfolding follows place unpacked
-    clk-unpowered h =
-        let g = clk-unpowered-goes h in
-        keeps m fuses v p n (follows n w) (g .none) (g .there)
-        (ready .pinned ∙ (unpowered-pin w h ∙ sym (unpowered-pin (follows n w) (t .others VCC refl ∙ h))))
+    same-rst : (b : Bool) → high RST n ≡ b → high RST l ≡ b
+    unfolding place
+    same-rst b e = sym (t .others RST refl) ∙ e
 
-    pub clk-rises-goes : high VCC l ≡ true → high CLK l ≡ false → Goes (clkRises n w)
-    unfolding powered change
-    clk-rises-goes h k =
-        record {
-          none = number-of CLK 0 t (clk-number l (w .programming) ∙ rw k);
-          there = next-at m fuses v p n (change CLK l) true (t .edge-is) h ∙ rw k;
-        }
+    same-pgm : (b : Bool) → high PGM n ≡ b → high PGM l ≡ b
+    unfolding place
+    same-pgm b e = sym (t .others PGM refl) ∙ e
 
-    pub clk-rises : high VCC l ≡ true → high CLK l ≡ false → Steps m fuses v p n (moved (packed (clkRises n w)) fuses p 0) m
-    unfolding clkRises place unpacked
-    clk-rises h k =
-        let g = clk-rises-goes h k in
-        keeps m fuses v p n (clkRises n w) (g .none) (g .there) (ready .pinned ∙ go (high PGM l) refl)
-      where
-        go : (b : Bool) → high PGM l ≡ b → pin card ≡ pin (withVolatile card (clkRises n w))
-        go true g = program-pin w g ∙ sym (program-pin (clkRises n w) (t .others PGM refl ∙ g))
-        go false g = rising-pin t g (idle k)
+    pub clk-unpowered : high VCC n ≡ false → Goes (follows n w)
+    clk-unpowered e =
+        let h = same-vcc false e in
+        off-goes t (clk-refusal l (w .programming) ∙ rw (h, and-false (high CLK l))) h
 
-    pub clk-refused :
-        high VCC l ≡ true → high CLK l ≡ true → w .programming ≡ true → high PGM l ≡ true → Steps m fuses v p n (moved v fuses p 4) m
-    clk-refused h k q g = stays m fuses v p n 3 (number-of CLK 4 t (clk-number l (w .programming) ∙ rw (h, k, q, g)))
+    pub clk-unpowered-kept : high VCC n ≡ false → p ≡ pin (withVolatile card (follows n w))
+    unfolding follows unpacked
+    clk-unpowered-kept e = ready .pinned ∙ (unpowered-pin w (same-vcc false e) ∙ sym (unpowered-pin (follows n w) e))
 
-    pub clk-programs :
-        high VCC l ≡ true → high CLK l ≡ true → w .programming ≡ true → high PGM l ≡ false →
-        Steps m fuses v p n (movedTo (programmedCard m fuses v n)) (programmedCard m fuses v n .memory)
-    unfolding powered change clkFalls programmedCard operationNow
-    clk-programs h k q g =
-        goes-to m fuses v p n (programmedCard m fuses v n) (number-of CLK 0 t (clk-number l (w .programming) ∙ rw (h, k, q, g)))
-        (next-at m fuses v p n (change CLK l) true (t .edge-is) h ∙ rw (k, q))
+    -- Its rise leaves the pin as it was with PGM low, and released with PGM high.
+    rising-pin : high PGM l ≡ false → w .programming ≡ false → pin card ≡ pin (withVolatile card (clkRises n w))
+    unfolding clkRises pin driven held place unpacked
+    rising-pin low q = rw (t .others VCC refl, t .others RST refl, t .others PGM refl, t .others FUS refl, low, q)
 
-    pub clk-reset :
-        high VCC l ≡ true → high CLK l ≡ true → w .programming ≡ false → high RST l ≡ true →
-        Steps m fuses v p n (moved (packed (unlatched n (w .matched) w)) fuses p 0) m
-    unfolding powered change clkFalls unlatched place unpacked
-    clk-reset h k q r =
-        keeps m fuses v p n (unlatched n (w .matched) w) (number-of CLK 0 t (clk-number l (w .programming) ∙ rw (h, k, q)))
-        (next-at m fuses v p n (change CLK l) true (t .edge-is) h ∙ rw (k, q, r))
-        (ready .pinned ∙ (reset-pin w r ∙ sym (reset-pin (unlatched n (w .matched) w) (t .others RST refl ∙ r))))
+    module _ (on : high VCC n ≡ true) where
+      module _ (up : high CLK n ≡ true) where
+        was-low : high CLK l ≡ false
+        was-low = not-true (high CLK l) (sym (t .over) ∙ up)
 
-    pub clk-counts :
-        high VCC l ≡ true → high CLK l ≡ true → w .programming ≡ false → high RST l ≡ false →
-        (refusal w n ≡ 0) × (next card n ≡ clocked n card)
-    unfolding powered change clkFalls clocked unpacked
-    clk-counts h k q r =
-        (number-of CLK 0 t (clk-number l (w .programming) ∙ rw (h, k, q)), next-at m fuses v p n (change CLK l) true (t .edge-is) h ∙ rw (k, q, r))
+        pub clk-rises : Goes (clkRises n w)
+        unfolding powered change
+        clk-rises = on-goes (clkRises n w) t (clk-refusal l (w .programming) ∙ rw was-low) (same-vcc true on) (rw was-low)
 
-    pub clk-moves :
-        high VCC l ≡ true → high CLK l ≡ true → w .programming ≡ false → high RST l ≡ false →
-        Steps m fuses v p n (movedTo (clocked n card)) m
-    unfolding clocked
-    clk-moves h k q r =
-        let g = clk-counts h k q r in
-        goes-to m fuses v p n (clocked n card) (g .0) (g .1)
+        pub clk-rises-kept : p ≡ pin (withVolatile card (clkRises n w))
+        unfolding clkRises unpacked
+        clk-rises-kept = ready .pinned ∙ go (high PGM n) refl
+          where
+            go : (b : Bool) → high PGM n ≡ b → pin card ≡ pin (withVolatile card (clkRises n w))
+            go true h = program-pin w (same-pgm true h) ∙ sym (program-pin (clkRises n w) h)
+            go false h = rising-pin (same-pgm false h) (idle ready was-low)
+
+      module _ (down : high CLK n ≡ false) (q : w .programming ≡ false) where
+        was-high : high CLK l ≡ true
+        was-high = not-false (high CLK l) (sym (t .over) ∙ down)
+
+        none-refused : edgeRefusal (change CLK l) l (w .programming) ≡ 0
+        none-refused = clk-refusal l (w .programming) ∙ rw (same-vcc true on, was-high, q)
+
+        pub clk-reset : high RST n ≡ true → Goes (unlatched n (w .matched) w)
+        unfolding powered change clkFalls unpacked
+        clk-reset r = on-goes (unlatched n (w .matched) w) t none-refused (same-vcc true on) (rw (was-high, q, same-rst true r))
+
+        pub clk-reset-kept : high RST n ≡ true → p ≡ pin (withVolatile card (unlatched n (w .matched) w))
+        unfolding unlatched unpacked
+        clk-reset-kept r = ready .pinned ∙ (reset-pin w (same-rst true r) ∙ sym (reset-pin (unlatched n (w .matched) w) r))
+
+        module _ (r : high RST n ≡ false) where
+          is-clocked : powered (change CLK l) n card ≡ clocked n card
+          unfolding powered change clkFalls unpacked
+          is-clocked = rw (was-high, q, same-rst false r)
+
+          pub clk-walks : (u : Halves.Volatile) → clocked n card ≡ withVolatile card u → Goes u
+          clk-walks u there = on-goes u t none-refused (same-vcc true on) (is-clocked ∙ there)
+
+          pub clk-counts : Steps g p n (withHalf g (packed (clocked n card .volatile))) (pin (clocked n card)) 0
+          unfolding clocked
+          clk-counts =
+              goes-to (clocked n card) (refused-by 0 t none-refused)
+              (next-at (change CLK l) true (t .edge-is) (same-vcc true on) ∙ is-clocked)
+
+    module _ (q : w .programming ≡ true) where
+      pub clk-refused : high PGM n ≡ true → Steps g p n g p 4
+      clk-refused h =
+          stays 3
+          (refused-by 4 t (clk-refusal l (w .programming) ∙ rw (power-on ready q, clock-high ready q, q, same-pgm true h)))
+
+      pub clk-programs : high PGM n ≡ false → Steps g p n (handedBack (programmedCard g n)) (pin (programmedCard g n)) 0
+      unfolding powered change clkFalls programmedCard
+      clk-programs h =
+          goes-to (programmedCard g n)
+          (refused-by 0 t (clk-refusal l (w .programming) ∙ rw (power-on ready q, clock-high ready q, q, same-pgm false h)))
+          (next-at (change CLK l) true (t .edge-is) (power-on ready q) ∙ rw (clock-high ready q, q))
 
   -- No line: the step is the present levels.
-  pub same-step : bitXor l n ≡ 0 → Steps m fuses v p n (moved v fuses p 0) m
+  pub same-step : bitXor l n ≡ 0 → Steps g p n g p 0
   unfolding by-difference powered follows unpacked
   same-step d =
-      rw (packed-unpacked v (flags-small v (ready .sound)), sym (ready .pinned)) at (goes-to m fuses v p n card none (there (high VCC l) refl))
+      rw (packed-unpacked (g .half) (flags-small (g .half) (ready .sound)), sym (ready .pinned)) at (goes-to card none (there (high VCC l) refl))
     where
       small : n < 64
-      small = small-step l n levels-small (rw d (omega arith))
+      small = small-step l n (levels-small ready) (rw d (omega arith))
 
       is-same : edge l n ≡ Same
-      is-same = edge-by-difference l n levels-small small ∙ rw d
+      is-same = edge-by-difference l n (levels-small ready) small ∙ rw d
 
       none : refusal w n ≡ 0
-      none = refusal-at m fuses v p n Same small is-same ∙ same-number l (w .programming)
+      none = refusal-at Same small is-same ∙ same-refusal l (w .programming)
 
       there : (b : Bool) → high VCC l ≡ b → next card n ≡ card
-      there true h = next-at m fuses v p n Same true is-same h
-      there false h = next-at m fuses v p n Same false is-same h ∙ rw (edge-same l n levels-small small is-same)
+      there true h = next-at Same true is-same h
+      there false h = next-at Same false is-same h ∙ rw (edge-same l n (levels-small ready) small is-same)
 
   -- A byte over 63.
-  pub over-63 : 63 < n → Steps m fuses v p n (moved v fuses p 1) m
+  pub over-63 : 63 < n → Steps g p n g p 1
   unfolding refusal
-  over-63 h = stays m fuses v p n 0 (rw (lt-ltb 63 n h))
+  over-63 h = stays 0 (rw (lt-ltb 63 n h))
 
   -- More than one line.
   pub many-lines :
       n < 64 → (bitXor l n ≡ 0 → ⊥) → (bitXor l n ≡ 1 → ⊥) → (bitXor l n ≡ 2 → ⊥) → (bitXor l n ≡ 4 → ⊥) → (bitXor l n ≡ 8 → ⊥) →
-      (bitXor l n ≡ 16 → ⊥) → (bitXor l n ≡ 32 → ⊥) → Steps m fuses v p n (moved v fuses p 2) m
+      (bitXor l n ≡ 16 → ⊥) → (bitXor l n ≡ 32 → ⊥) → Steps g p n g p 2
   unfolding by-difference edgeRefusal many
   many-lines small h0 h1 h2 h4 h8 h16 h32 =
       let d = bitXor l n in
-      stays m fuses v p n 1
-      (refusal-at m fuses v p n Many small
-      (edge-by-difference l n levels-small small ∙
+      stays 1
+      (refusal-at Many small
+      (edge-by-difference l n (levels-small ready) small ∙
       rw (ne-eqb d 0 h0, ne-eqb d 1 h1, ne-eqb d 2 h2, ne-eqb d 4 h4, ne-eqb d 8 h8, ne-eqb d 16 h16, ne-eqb d 32 h32)))

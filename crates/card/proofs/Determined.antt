@@ -1,24 +1,37 @@
 -- Demand 1: two answers that a contract allows coincide, with every lent byte.
 use Prim.Native.Nat.{ℕ}
-use mathlib.Core.Path.{_≡_}
+use mathlib.Core.Path.{_≡_, ap, _∙_}
 use mathlib.Core.List.{List}
 use Rattle.memory.proofs.Determined.{determined}
-use Rattle.volatile.specs.declared.Volatile.{Volatile}
+use Rattle.rules.specs.declared.Answer.{Answer}
+use Rattle.volatile.specs.Packed.{Given, given}
 use Rattle.card.specs.declared.Stepped.{Stepped}
 use Rattle.card.specs.declared.Ran.{Ran}
 use Rattle.card.specs.Contracts.{StepAnswered, RunAnswered}
 
-module _ (m : List ℕ) (fuses : ℕ) (v : Volatile) where
+-- An answer by the card that is left and what else is told.
+stepAs : Given → Answer → Stepped
+stepAs d answer = record { fuses = d .fuses; volatile = d .half; answer = answer }
+
+runAs : Given → ℕ → ℕ → Ran
+runAs d done refusal = record { fuses = d .fuses; volatile = d .half; done = done; refusal = refusal }
+
+module _ (g : Given) (after after′ : List ℕ) where
   pub step-determined :
-      (n : ℕ) (r r′ : Stepped) (after after′ : List ℕ) → StepAnswered m fuses v n r after → StepAnswered m fuses v n r′ after′ →
-      (r ≡ r′) × (after ≡ after′)
-  step-determined n r r′ after after′ p q = (determined (p .answer) (q .answer), determined (p .memory) (q .memory))
+      (n : ℕ) (r r′ : Stepped) → StepAnswered g n r after → StepAnswered g n r′ after′ → (r ≡ r′) × (after ≡ after′)
+  unfolding stepAs
+  step-determined n r r′ p q =
+      let card = determined (p .card) (q .card) in
+      let same : stepAs (given after (r .fuses) (r .volatile)) (r .answer) ≡ stepAs (given after′ (r′ .fuses) (r′ .volatile)) (r′ .answer) =
+      cc (card, determined (p .answer) (q .answer)) in
+      (same, ap (λ (d : Given). d .memory) card)
 
   pub run-determined :
-      (steps answers : List ℕ) (r r′ : Ran) (after after′ told told′ : List ℕ) → RunAnswered m fuses v steps answers r after told →
-      RunAnswered m fuses v steps answers r′ after′ told′ → (r ≡ r′) × (after ≡ after′) × (told ≡ told′)
-  run-determined steps answers r r′ after after′ told told′ p q = (
-    determined (p .answer) (q .answer),
-    determined (p .memory) (q .memory),
-    determined (p .pins) (q .pins),
-  )
+      (steps answers : List ℕ) (r r′ : Ran) (told told′ : List ℕ) → RunAnswered g steps answers r after told →
+      RunAnswered g steps answers r′ after′ told′ → (r ≡ r′) × (after ≡ after′) × (told ≡ told′)
+  unfolding runAs
+  run-determined steps answers r r′ told told′ p q =
+      let card = determined (p .card) (q .card) in
+      let same : runAs (given after (r .fuses) (r .volatile)) (r .done) (r .refusal) ≡ runAs (given after′ (r′ .fuses) (r′ .volatile)) (r′ .done) (r′ .refusal) =
+      cc (card, determined (p .done) (q .done), determined (p .refusal) (q .refusal)) in
+      (same, ap (λ (d : Given). d .memory) card, determined (p .pins) (q .pins))

@@ -1,47 +1,46 @@
--- What the loop hands on, in the definitions' terms.
+-- What the code hands on where CLK falls, in the definitions' terms.
 use Prim.Native.Nat.{ℕ}
 use mathlib.Core.Path.{_≡_}
-use mathlib.Core.List.{List}
+use Rattle.rules.specs.declared.Operation.{Operation}
 use Rattle.rules.specs.Halves as Halves
-use Rattle.rules.specs.Halves.{EC-EN, unblown}
+use Rattle.rules.specs.Halves.{Card, EC-EN, unblown}
 use Rattle.rules.specs.Rights.{held, level1}
-use Rattle.rules.specs.Programming.{memoryAfter, fusesAfter, turns, opens, keyOpens}
+use Rattle.rules.specs.Programming.{operationNow, memoryAfter, fusesAfter, turns, opens, keyOpens}
 use Rattle.rules.specs.Match.{following, arrived}
 use Rattle.rules.specs.Steps.{unlatched, clocked, programmed, pin}
-use Rattle.volatile.specs.declared.Volatile.{Volatile}
-use Rattle.volatile.specs.Packed.{packed, unpacked, cardOf, programmedHalf, comparedHere, operationNow}
+use Rattle.volatile.specs.Packed.{packed, unpacked, Given, given, cardOf, programmedHalf, comparedHere}
 use Rattle.volatile.proofs.Packing.{unpacked-packed}
-use Rattle.card.specs.Moves.{moved, movedTo, programmedCard}
+use Rattle.card.specs.Moves.{moved, movedTo, leftBy, leftAs, programmedCard}
+use Rattle.card.proofs.ByLine.{pinAt}
 
 -- A packed half with its pin is an accepted step's card.
-pub accepts :
-    (m : List ℕ) (fuses : ℕ) (w : Halves.Volatile) →
-    moved (packed w) fuses (pin (cardOf m fuses (packed w))) 0 ≡ movedTo (record { memory = m; fuses = fuses; volatile = w })
-accepts m fuses w = rw (unpacked-packed w)
+accepts : (c : Card) → pinAt (given (c .memory) (c .fuses) (packed (c .volatile))) (packed (c .volatile)) ≡ pin c
+unfolding pin packed
+accepts c = rw (unpacked-packed (c .volatile))
 
-module _ (m : List ℕ) (fuses : ℕ) (v : Volatile) (n : ℕ) where
+module _ (g : Given) (n : ℕ) where
   abbrev pub clockedHalf : Halves.Volatile
   clockedHalf =
-      arrived m fuses (following (v .address))
-      (unlatched n (comparedHere m (level1 (held fuses (unpacked v))) (unpacked v)) (unpacked v))
+      let w = unpacked (g .half) in
+      arrived (g .memory) (g .fuses) (following (g .half .address))
+      (unlatched n (comparedHere (g .memory) (level1 (held (g .fuses) w)) w) w)
 
-  pub clocks : moved (packed clockedHalf) fuses (pin (cardOf m fuses (packed clockedHalf))) 0 ≡ movedTo (clocked n (cardOf m fuses v))
+  pub clocks : moved (packed clockedHalf) (pinAt g (packed clockedHalf)) 0 ≡ movedTo (clocked n (cardOf g))
   unfolding clocked comparedHere unpacked
-  clocks = accepts m fuses clockedHalf
+  clocks = rw (accepts (clocked n (cardOf g)))
+
+  -- CLK falls in programming: the operation's image and fuses, and the half after it.
+  abbrev pub op : Operation
+  op = operationNow (g .fuses) (unpacked (g .half))
 
   abbrev pub programmedVolatile : Halves.Volatile
   programmedVolatile =
-      programmedHalf (level1 (held fuses (unpacked v))) (unblown EC-EN fuses) (turns (operationNow fuses (unpacked v)) m (v .address)) n
-      (unpacked v)
+      let w = unpacked (g .half) in
+      programmedHalf (level1 (held (g .fuses) w)) (unblown EC-EN (g .fuses)) (turns op (g .memory) (g .half .address)) n w
 
-  pub programs :
-      moved (packed programmedVolatile) (fusesAfter (operationNow fuses (unpacked v)) fuses)
-      (pin
-      (cardOf (memoryAfter (operationNow fuses (unpacked v)) (v .address) m) (fusesAfter (operationNow fuses (unpacked v)) fuses)
-      (packed programmedVolatile)))
-      0 ≡
-      movedTo (programmedCard m fuses v n)
+  abbrev pub operated : Given
+  operated = given (memoryAfter op (g .half .address) (g .memory)) (fusesAfter op (g .fuses)) (packed programmedVolatile)
+
+  pub programs : leftBy (moved (operated .half) (pinAt operated (operated .half)) 0) (operated .fuses) ≡ leftAs (programmedCard g n)
   unfolding programmedCard programmed programmedHalf opens keyOpens unpacked
-  programs =
-      accepts (memoryAfter (operationNow fuses (unpacked v)) (v .address) m) (fusesAfter (operationNow fuses (unpacked v)) fuses)
-      programmedVolatile
+  programs = rw (accepts (programmedCard g n))

@@ -4,210 +4,191 @@ use native.Mathlib.Omega.{arith}
 use native.Mathlib.Numerals.{add-one}
 use mathlib.Core.Path.{_≡_, refl, sym, ap, _∙_}
 use mathlib.Core.Bool.{Bool, true, false, cond, not}
-use mathlib.Core.List.{List, _∷_, _++_, append-nil}
+use mathlib.Core.List.{List, [], _∷_, _++_, append-nil}
 use lib.Dec.{eqb, ltb}
 use lib.ListN.{length, getD, set, take, drop, length-set, take-append-drop, drop-of-length-le}
-use lib.Seq.{drop-cons, take-suc-set, append-snoc, drop-set-lt, drop-drop, length-take-le}
-use borrow.Author.Tests.{eqb-true, eq-eqb, le-ltb, ltb-false, not-false}
+use lib.Seq.{drop-cons, take-suc, take-suc-set, drop-set-lt, drop-drop, length-take-le}
+use borrow.Author.Tests.{eqb-true, eq-eqb, ne-eqb, le-ltb, ltb-false, not-false}
 use Rattle.memory.specs.Image.{bytes}
 use Rattle.rules.specs.Halves as Halves
 use Rattle.rules.specs.Halves.{Card}
-use Rattle.rules.specs.Refusals.{refusal, madeUp}
+use Rattle.rules.specs.Refusals.{refusal, madeUp, before-a-run}
 use Rattle.rules.specs.Steps.{next, pin}
-use Rattle.rules.specs.Card.{Ran, added, ended, stepped, run, answersIn}
+use Rattle.rules.specs.Card.{Ran, added, ended, run, answersIn}
 use Rattle.rules.proofs.Tests.{peel}
+use Rattle.rules.proofs.Runs.{behind, run-append}
 use Rattle.rules.proofs.Soundness.{SoundCard, let-pass, passes, unmade, sound-stays-sound}
-use Rattle.volatile.specs.declared.Volatile.{Volatile}
-use Rattle.volatile.specs.Packed.{packed, unpacked, cardOf, madeUpWord}
+use Rattle.volatile.specs.Packed.{packed, unpacked, Given, given, cardOf, handedBack, madeUpWord}
 use Rattle.volatile.proofs.Packing.{unpacked-packed, packed-unpacked, packed-small}
-use Rattle.card.specs.declared.handed.Moved.{Moved}
+use Rattle.refusals.specs.Before.{givenRefusal, givenRunRefusal}
 use Rattle.card.specs.declared.Ran as Declared
-use Rattle.card.specs.Moves.{Ready, moved, movedTo, movedBy, Steps, ranTo, Runs}
-use Rattle.refusals.specs.Numbers.{stateNumber}
+use Rattle.card.specs.Moves.{Ready, Steps}
+use Rattle.card.specs.Contracts.{runLeaves, runAnswers, runRefused, RunAnswered}
 use Rattle.card.proofs.ByLine.{flags-small, sound-half}
 
--- A run with answers that were given before it.
-abbrev pub behind : List ℕ → Ran → Ran
-behind xs r = record { card = r .card; answers = xs ++ r .answers; refused = r .refused }
+-- A card that a step hands on stands for the card that the definitions give.
+pub handed-on : (c : Card) → cardOf (handedBack c) ≡ c
+handed-on c = rw (unpacked-packed (c .volatile))
 
 -- A packed half that stands for a sound one is no made-up state.
 packed-sound : (w : Halves.Volatile) → madeUp w ≡ false → madeUpWord (packed w) ≡ false
 unfolding madeUpWord
 packed-sound w e = rw (le-ltb 127 (packed w .flags) (omega (arith, packed-small w)), unpacked-packed w) e
 
--- One step: accepted, it comes to the next card; refused, it leaves all as it was.
-module _ (m : List ℕ) (fuses : ℕ) (v : Volatile) (p n : ℕ) (r : Moved) (after : List ℕ) (steps-to : Steps m fuses v p n r after) where
-  abbrev c : Card
-  c = cardOf m fuses v
-
-  abbrev k : ℕ
-  k = refusal (unpacked v) n
-
-  as-moved : (t : Bool) → eqb k 0 ≡ t → r ≡ cond t (movedTo (next c n)) (moved v fuses p k)
-  unfolding movedBy
-  as-moved t e = steps-to .moved-is ∙ rw e
-
-  as-memory : (t : Bool) → eqb k 0 ≡ t → after ≡ (cond t (next c n) c) .memory
-  unfolding stepped
-  as-memory t e = steps-to .memory-is ∙ rw e
-
-  pub none-refused : r .refusal ≡ 0 → eqb k 0 ≡ true
-  none-refused z = go (eqb k 0) refl
-    where
-      go : (t : Bool) → eqb k 0 ≡ t → eqb k 0 ≡ true
-      go true e = e
-      go false e = eq-eqb k 0 (sym (ap (λ (x : Moved). x .refusal) (as-moved false e)) ∙ z)
-
-  pub some-refused : (r .refusal ≡ 0 → ⊥) → eqb k 0 ≡ false
-  some-refused h = go (eqb k 0) refl
-    where
-      go : (t : Bool) → eqb k 0 ≡ t → eqb k 0 ≡ false
-      go true e = absurd (h (ap (λ (x : Moved). x .refusal) (as-moved true e)))
-      go false e = e
-
-  pub accepted-is : r .refusal ≡ 0 → r ≡ movedTo (next c n)
-  accepted-is z = as-moved true (none-refused z)
-
-  pub card-after : r .refusal ≡ 0 → cardOf after (r .fuses) (r .volatile) ≡ next c n
-  card-after z =
-      rw (accepted-is z, as-memory true (none-refused z), unpacked-packed (next c n .volatile))
-
-  pub ready-after : Ready m fuses v p → r .refusal ≡ 0 → Ready after (r .fuses) (r .volatile) (r .pin)
-  ready-after ready z =
-      record {
-        sized = ap length (as-memory true e) ∙ good .sized;
-        fused = rw (accepted-is z) (good .fused);
-        sound = rw (accepted-is z) (packed-sound (next c n .volatile) (unmade (next c n .volatile) (good .half)));
-        pinned = rw (card-after z) (ap (λ (x : Moved). x .pin) (accepted-is z));
-      }
-    where
-      e : eqb k 0 ≡ true
-      e = none-refused z
-
-      here : SoundCard c
-      here = record { sized = ready .sized; fused = ready .fused; half = sound-half v (ready .sound) }
-
-      good : SoundCard (next c n)
-      good = let-pass (next c n) (sound-stays-sound c n (passes c here) (eqb-true k 0 e))
-
-  pub run-on : (ns : List ℕ) → r .refusal ≡ 0 → run c (n ∷ ns) ≡ added (r .pin) (run (cardOf after (r .fuses) (r .volatile)) ns)
-  unfolding run
-  run-on ns z = rw (none-refused z, card-after z, accepted-is z)
-
-  pub run-ends : (ns : List ℕ) → (r .refusal ≡ 0 → ⊥) → run c (n ∷ ns) ≡ ended c (r .refusal)
-  unfolding run
-  run-ends ns h = rw (some-refused h, ap (λ (x : Moved). x .refusal) (as-moved false (some-refused h)))
-
-  pub same-memory : (r .refusal ≡ 0 → ⊥) → after ≡ m
-  same-memory h = as-memory false (some-refused h)
-
--- Before step i: the card so far is ready, and the whole run is the answers so far and the run of what is left.
-pub record Going
-    (m : List ℕ) (fuses : ℕ) (v : Volatile) (steps answers₀ image answers : List ℕ) (f : ℕ) (s : Volatile) (p i : ℕ) : Type 0 where
-  pub ready : Ready image f s p
-  pub start-sized : length m ≡ bytes
-  pub within : i ≤ length steps
-  pub room : length steps ≤ length answers₀
-  pub sized : length answers ≡ length answers₀
-  pub so-far : run (cardOf m fuses v) steps ≡ behind (take i answers) (run (cardOf image f s) (drop i steps))
-  pub rest : drop i answers ≡ drop i answers₀
-
--- A card that is given no number is ready.
-pub ready-at : (m : List ℕ) (fuses : ℕ) (v : Volatile) (p : ℕ) → stateNumber m fuses v ≡ 0 → p ≡ pin (cardOf m fuses v) → Ready m fuses v p
-unfolding stateNumber
-ready-at m fuses v p z e =
-    let a = peel (not (eqb (length m) bytes)) 9 _ z in
-    let b = peel (ltb 7 fuses) 13 _ (a .1) in
-    let d = peel (madeUpWord v) 8 0 (b .1) in
+pub sound-ready : (c : Card) → SoundCard c → Ready (handedBack c) (pin c)
+sound-ready c good =
     record {
-      sized = eqb-true (length m) bytes (not-false (eqb (length m) bytes) (a .0));
-      fused = ltb-false 7 fuses (b .0);
+      sized = good .sized;
+      fused = good .fused;
+      sound = packed-sound (c .volatile) (unmade (c .volatile) (good .half));
+      pinned = ap pin (sym (handed-on c));
+    }
+
+-- An accepted step of a ready card leads to a ready one.
+module _ {g left : Given} {p n shown k : ℕ} (steps-to : Steps g p n left shown k) (z : k ≡ 0) where
+  none : refusal (unpacked (g .half)) n ≡ 0
+  none = sym (steps-to .refused) ∙ z
+
+  pub card-after : cardOf left ≡ next (cardOf g) n
+  card-after = ap cardOf (steps-to .accepted z .0) ∙ handed-on (next (cardOf g) n)
+
+  pub ready-after : Ready g p → Ready left shown
+  ready-after ready = rw (steps-to .accepted z .0, steps-to .accepted z .1) (sound-ready (next (cardOf g) n) good)
+    where
+      here : SoundCard (cardOf g)
+      here = record { sized = ready .sized; fused = ready .fused; half = sound-half (g .half) (ready .sound) }
+
+      good : SoundCard (next (cardOf g) n)
+      good = let-pass (next (cardOf g) n) (sound-stays-sound (cardOf g) n (passes (cardOf g) here) none)
+
+  one-more : run (cardOf g) (n ∷ []) ≡ record { card = cardOf left; answers = shown ∷ []; refused = 0 }
+  unfolding run
+  one-more = rw (none, steps-to .accepted z .1, card-after)
+
+-- A card that is refused by nothing is ready.
+pub ready-at : (g : Given) (p : ℕ) → givenRefusal g ≡ 0 → p ≡ pin (cardOf g) → Ready g p
+unfolding givenRefusal
+ready-at g p z e =
+    let a = peel (not (eqb (length (g .memory)) bytes)) 9 _ z in
+    let b = peel (ltb 7 (g .fuses)) 13 _ (a .1) in
+    let d = peel (madeUpWord (g .half)) 8 0 (b .1) in
+    record {
+      sized = eqb-true (length (g .memory)) bytes (not-false (eqb (length (g .memory)) bytes) (a .0));
+      fused = ltb-false 7 (g .fuses) (b .0);
       sound = d .0;
       pinned = e;
     }
 
-module _ (m : List ℕ) (fuses : ℕ) (v : Volatile) (steps answers₀ : List ℕ) where
+-- A run that is refused by nothing: neither is the card, and there is room.
+none-of : (k r : ℕ) → cond (not (eqb k 0)) k r ≡ 0 → k ≡ 0
+none-of k r e = go (eqb k 0) refl
+  where
+    go : (t : Bool) → eqb k 0 ≡ t → k ≡ 0
+    go true q = eqb-true k 0 q
+    go false q = rw q at e
+
+pub sound-at : (g : Given) (steps room : ℕ) → givenRunRefusal g steps room ≡ 0 → givenRefusal g ≡ 0
+unfolding givenRunRefusal
+sound-at g steps room e = none-of (givenRefusal g) _ e
+
+pub room-at : (g : Given) (steps room : ℕ) → givenRunRefusal g steps room ≡ 0 → steps ≤ room
+unfolding givenRunRefusal
+room-at g steps room e =
+    let long = peel (ltb 4096 steps) 17 _ (rw (sound-at g steps room e) at e) in
+    ltb-false room steps (peel (ltb room steps) 18 0 (long .1) .0)
+
+-- Before step i: the card so far is ready, and the run of the steps so far has given the answers so far.
+pub record Going (start : Given) (steps answers₀ : List ℕ) (g : Given) (answers : List ℕ) (p i : ℕ) : Type 0 where
+  pub fits : givenRunRefusal start (length steps) (length answers₀) ≡ 0
+  pub start-sized : length (start .memory) ≡ bytes
+  pub room : length steps ≤ length answers₀
+  pub ready : Ready g p
+  pub within : i ≤ length steps
+  pub sized : length answers ≡ length answers₀
+  pub so-far : run (cardOf start) (take i steps) ≡ record { card = cardOf g; answers = take i answers; refused = 0 }
+  pub rest : drop i answers ≡ drop i answers₀
+
+module _ (start : Given) (steps answers₀ : List ℕ) where
   pub starts :
-      (p : ℕ) → stateNumber m fuses v ≡ 0 → length steps ≤ length answers₀ → p ≡ pin (cardOf m fuses v) →
-      Going m fuses v steps answers₀ m answers₀ fuses v p 0
-  starts p z h e =
-      let ready = ready-at m fuses v p z e in
+      (p : ℕ) → givenRunRefusal start (length steps) (length answers₀) ≡ 0 → p ≡ pin (cardOf start) →
+      Going start steps answers₀ start answers₀ p 0
+  unfolding run
+  starts p fits e =
+      let ready = ready-at start p (sound-at start (length steps) (length answers₀) fits) e in
       record {
-        ready = ready;
+        fits = fits;
         start-sized = ready .sized;
+        room = room-at start (length steps) (length answers₀) fits;
+        ready = ready;
         within = omega arith;
-        room = h;
         sized = refl;
         so-far = refl;
         rest = refl;
       }
 
-  module _ (image answers : List ℕ) (f : ℕ) (s : Volatile) (p i : ℕ) (going : Going m fuses v steps answers₀ image answers f s p i) where
-    -- The run is over where the run of what is left is.
-    pub concludes :
-        (k : ℕ) → run (cardOf image f s) (drop i steps) ≡ ended (cardOf image f s) k →
-        Runs m fuses v steps answers₀ (record { fuses = f; volatile = s; done = i; refusal = k }) image answers
-    unfolding ranTo answersIn
-    concludes k e =
-        record {
-          ran-is = rw (whole, append-nil, packed-unpacked s (flags-small s (going .ready .sound)), front);
-          memory-is = rw whole;
-          answers-are = rw (whole, append-nil, front, ← going .rest) (sym (take-append-drop i answers));
-        }
-      where
-        whole : run (cardOf m fuses v) steps ≡ behind (take i answers) (ended (cardOf image f s) k)
-        whole = going .so-far ∙ ap (behind (take i answers)) e
+module _ {start g : Given} {steps answers₀ answers : List ℕ} {p i : ℕ} (going : Going start steps answers₀ g answers p i) where
+  -- The whole run is the answers so far and the run of what is left.
+  whole : run (cardOf start) steps ≡ behind (take i answers) (run (cardOf g) (drop i steps))
+  whole =
+      ap (run (cardOf start)) (sym (take-append-drop i steps)) ∙
+      (run-append (cardOf start) (take i steps) (drop i steps) ∙ rw (going .so-far))
 
-        front : length (take i answers) ≡ i
-        front = length-take-le i answers (omega (arith, going .within, going .room, going .sized))
+  -- The run is over where the run of what is left is.
+  concludes :
+      (k : ℕ) → run (cardOf g) (drop i steps) ≡ ended (cardOf g) k →
+      RunAnswered start steps answers₀ (record { fuses = g .fuses; volatile = g .half; done = i; refusal = k }) (g .memory) answers
+  unfolding runLeaves runAnswers runRefused answersIn
+  concludes k e =
+      record {
+        card = rw (going .fits, all, packed-unpacked (g .half) (flags-small (g .half) (going .ready .sound)));
+        done = rw (going .fits, all, append-nil, front);
+        refusal = rw (going .fits, all);
+        pins = rw (going .fits, all, append-nil, front, ← going .rest) (sym (take-append-drop i answers));
+      }
+    where
+      all : run (cardOf start) steps ≡ behind (take i answers) (ended (cardOf g) k)
+      all = whole ∙ ap (behind (take i answers)) e
 
-    pub ends : length steps ≤ i → Runs m fuses v steps answers₀ (record { fuses = f; volatile = s; done = i; refusal = 0 }) image answers
+      front : length (take i answers) ≡ i
+      front = length-take-le i answers (omega (arith, going .within, going .room, going .sized))
+
+  pub ends :
+      length steps ≤ i →
+      RunAnswered start steps answers₀ (record { fuses = g .fuses; volatile = g .half; done = i; refusal = 0 }) (g .memory) answers
+  unfolding run
+  ends h = concludes 0 (rw (drop-of-length-le steps h))
+
+  module _ {left : Given} {shown k : ℕ} (h : i < length steps) (steps-to : Steps g p (getD steps i 0) left shown k) where
+    pub stops :
+        (k ≡ 0 → ⊥) →
+        RunAnswered start steps answers₀ (record { fuses = g .fuses; volatile = g .half; done = i; refusal = k }) (left .memory) answers
     unfolding run
-    ends h = concludes 0 (rw (drop-of-length-le steps h))
+    stops z = rw (steps-to .kept z .0) (concludes k (rw (drop-cons steps i 0 h, ← steps-to .refused, ne-eqb k 0 z)))
 
-    module _ (r : Moved) (after : List ℕ) (h : i < length steps) (steps-to : Steps image f s p (getD steps i 0) r after) where
-      left : drop i steps ≡ getD steps i 0 ∷ drop (suc i) steps
-      left = drop-cons steps i 0 h
+    pub again : k ≡ 0 → Going start steps answers₀ left (set answers i shown) shown (i + 1)
+    again z =
+        rw (add-one i)
+        (record {
+          fits = going .fits;
+          start-sized = going .start-sized;
+          room = going .room;
+          ready = ready-after steps-to z (going .ready);
+          within = h;
+          sized = length-set answers i shown ∙ going .sized;
+          so-far = further;
+          rest = drop-set-lt (suc i) answers i shown (omega arith) ∙ past;
+        })
+      where
+        there : i < length answers
+        there = omega (arith, h, going .room, going .sized)
 
-      pub stops :
-          (r .refusal ≡ 0 → ⊥) →
-          Runs m fuses v steps answers₀ (record { fuses = f; volatile = s; done = i; refusal = r .refusal }) after answers
-      stops z =
-          rw (same-memory image f s p (getD steps i 0) r after steps-to z)
-          (concludes (r .refusal) (rw left (run-ends image f s p (getD steps i 0) r after steps-to (drop (suc i) steps) z)))
+        past : drop (suc i) answers ≡ drop (suc i) answers₀
+        past = rw (drop-drop 1 i answers, drop-drop 1 i answers₀, add-one i) at (ap (drop 1) (going .rest))
 
-      pub again :
-          r .refusal ≡ 0 →
-          Going m fuses v steps answers₀ after (set answers i (r .pin)) (r .fuses) (r .volatile) (r .pin) (i + 1)
-      again z =
-          rw (add-one i)
-          (record {
-            ready = ready-after image f s p n r after steps-to (going .ready) z;
-            start-sized = going .start-sized;
-            within = h;
-            room = going .room;
-            sized = length-set answers i (r .pin) ∙ going .sized;
-            so-far = further;
-            rest = drop-set-lt (suc i) answers i (r .pin) (omega arith) ∙ past;
-          })
-        where
-          n : ℕ
-          n = getD steps i 0
-
-          there : i < length answers
-          there = omega (arith, h, going .room, going .sized)
-
-          past : drop (suc i) answers ≡ drop (suc i) answers₀
-          past = rw (drop-drop 1 i answers, drop-drop 1 i answers₀, add-one i) at (ap (drop 1) (going .rest))
-
-          further :
-              run (cardOf m fuses v) steps ≡
-              behind (take (suc i) (set answers i (r .pin))) (run (cardOf after (r .fuses) (r .volatile)) (drop (suc i) steps))
-          further =
-              going .so-far ∙
-              rw (
-                left,
-                run-on image f s p n r after steps-to (drop (suc i) steps) z,
-                take-suc-set answers i (r .pin) there,
-                append-snoc (take i answers) (r .pin) (run (cardOf after (r .fuses) (r .volatile)) (drop (suc i) steps) .answers),
-              )
+        further :
+            run (cardOf start) (take (suc i) steps) ≡
+            record { card = cardOf left; answers = take (suc i) (set answers i shown); refused = 0 }
+        further =
+            ap (run (cardOf start)) (take-suc steps i 0 h) ∙
+            (run-append (cardOf start) (take i steps) (getD steps i 0 ∷ []) ∙
+            rw (going .so-far, one-more steps-to z, take-suc-set answers i shown there))

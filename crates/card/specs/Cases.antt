@@ -10,18 +10,14 @@ use lib.ListN.{take, replicate, set}
 use Rattle.rules.specs.declared.Answer.{Answer}
 use Rattle.rules.specs.declared.Answer.the-variants.{Pin, Refused}
 use Rattle.rules.specs.CaseForms.{zero, one, released, sample}
-use Rattle.volatile.specs.declared.Volatile.{Volatile}
+use Rattle.volatile.specs.Packed.{Given, given}
 use Rattle.volatile.specs.Cases.{Gives, half}
 use Rattle.card.specs.declared.FlagsAnswer.the-variants.{Held, Refused as Barred}
-use Rattle.card.specs.Contracts.{StepAnswered, RunAnswered, flagsOf, flagsNumber, flagsHeld}
-
--- A card by its image, its fuses and its half.
-abbrev pub Given : Type 0
-Given = List ℕ × ℕ × Volatile
+use Rattle.card.specs.Contracts.{StepAnswered, RunAnswered, flagsOf, flagsRefused, flagsHeld}
 
 -- Of the first card the step makes the second and gets this answer.
 abbrev pub StepsTo : Given → ℕ → Given → Answer → Type 0
-StepsTo c n d x = StepAnswered (c .0) (c .1) (c .2) n (record { fuses = d .1; volatile = d .2; answer = x }) (d .0)
+StepsTo c n d x = StepAnswered c n (record { fuses = d .fuses; volatile = d .half; answer = x }) (d .memory)
 
 -- "A refused step changes nothing and gives back the state as it came, with the number, marked as a refusal, in place of a pin answer".
 abbrev pub StepRefused : Given → ℕ → ℕ → Type 0
@@ -30,30 +26,30 @@ StepRefused c n k = StepsTo c n c (Refused k)
 abbrev pub Steps-answer : Type 0
 Steps-answer =
     -- CLK rises at 0 and at 1, RST rises, FUS falls.
-    StepsTo (sample, 5, half 17 0 0) 21 (sample, 5, half 21 0 16) (Pin zero) ×
-    StepsTo (sample, 5, half 17 1 0) 21 (sample, 5, half 21 1 16) (Pin one) ×
-    StepsTo (sample, 5, half 17 0 0) 19 (sample, 5, half 19 0 0) (Pin released) ×
-    StepsTo (sample, 5, half 49 1240 103) 17 (sample, 5, half 17 1240 103) (Pin one) ×
+    StepsTo (given sample 5 (half 17 0 0)) 21 (given sample 5 (half 21 0 16)) (Pin zero) ×
+    StepsTo (given sample 5 (half 17 1 0)) 21 (given sample 5 (half 21 1 16)) (Pin one) ×
+    StepsTo (given sample 5 (half 17 0 0)) 19 (given sample 5 (half 19 0 0)) (Pin released) ×
+    StepsTo (given sample 5 (half 49 1240 103)) 17 (given sample 5 (half 17 1240 103)) (Pin one) ×
     -- "a write that turns a 1 into 0 at 96 to 103 while match holds sets SV", and one that blows ISS.
-    StepsTo (sample, 5, half 21 96 72) 17 (set sample 12 127, 5, half 17 96 65) (Pin zero) ×
-    StepsTo (sample, 7, half 23 1504 9) 19 (sample, 3, half 19 1504 1) (Pin released) ×
+    StepsTo (given sample 5 (half 21 96 72)) 17 (given (set sample 12 127) 5 (half 17 96 65)) (Pin zero) ×
+    StepsTo (given sample 7 (half 23 1504 9)) 19 (given sample 3 (half 19 1504 1)) (Pin released) ×
     -- An erase in IZ at level 1, which the fuses make.
-    StepsTo (set sample 2 0, 7, half 53 16 25) 49 (sample, 7, half 49 16 1) (Pin one) ×
+    StepsTo (given (set sample 2 0) 7 (half 53 16 25)) 49 (given sample 7 (half 49 16 1)) (Pin one) ×
     -- 1, 2 and 3.
-    StepRefused (sample, 5, half 17 0 0) 64 1 ×
-    StepRefused (sample, 5, half 17 0 7) 22 2 ×
-    StepRefused (sample, 5, half 21 96 72) 23 3 ×
+    StepRefused (given sample 5 (half 17 0 0)) 64 1 ×
+    StepRefused (given sample 5 (half 17 0 7)) 22 2 ×
+    StepRefused (given sample 5 (half 21 96 72)) 23 3 ×
     -- 10, 14 and 9 come first; the step is the write.
-    StepRefused (take 173 sample, 8, half 21 96 200) 17 10 ×
-    StepRefused (sample, 8, half 21 96 200) 17 14 ×
-    StepRefused (sample, 5, half 21 96 200) 17 9 ×
-    StepRefused (sample, 5, half 17 0 128) 64 9
+    StepRefused (given (take 173 sample) 8 (half 21 96 200)) 17 10 ×
+    StepRefused (given sample 8 (half 21 96 200)) 17 14 ×
+    StepRefused (given sample 5 (half 21 96 200)) 17 9 ×
+    StepRefused (given sample 5 (half 17 0 128)) 64 9
 
 -- Of the first card the steps, with these bytes for the answers, make the second; so many are done, this is the refusal, and those are the
 -- bytes afterwards.
 abbrev pub RunsTo : Given → List ℕ → List ℕ → Given → ℕ → ℕ → List ℕ → Type 0
 RunsTo c steps answers d done k told =
-    RunAnswered (c .0) (c .1) (c .2) steps answers (record { fuses = d .1; volatile = d .2; done = done; refusal = k }) (d .0) told
+    RunAnswered c steps answers (record { fuses = d .fuses; volatile = d .half; done = done; refusal = k }) (d .memory) told
 
 -- "a run refused by 9 or over has count 0", and nothing is changed.
 abbrev pub RunRefused : Given → List ℕ → List ℕ → ℕ → Type 0
@@ -66,23 +62,23 @@ three = 70 ∷ 71 ∷ 72 ∷ []
 abbrev pub Runs-answer : Type 0
 Runs-answer =
     -- "one answer byte (0 or 1) per accepted step"
-    RunsTo (sample, 5, half 17 0 0) (21 ∷ 17 ∷ 19 ∷ []) three (sample, 5, half 19 1 0) 3 0 (zero ∷ one ∷ released ∷ []) ×
+    RunsTo (given sample 5 (half 17 0 0)) (21 ∷ 17 ∷ 19 ∷ []) three (given sample 5 (half 19 1 0)) 3 0 (zero ∷ one ∷ released ∷ []) ×
     -- "stops at the first refused one, giving its number and the count done. The rest of the answers buffer keeps its bytes."
-    RunsTo (sample, 5, half 17 0 0) (21 ∷ 17 ∷ 22 ∷ []) three (sample, 5, half 17 1 0) 2 2 (zero ∷ one ∷ 72 ∷ []) ×
-    RunsTo (sample, 5, half 17 0 0) (64 ∷ 21 ∷ []) three (sample, 5, half 17 0 0) 0 1 three ×
-    RunsTo (sample, 5, half 17 0 0) (21 ∷ []) three (sample, 5, half 21 0 16) 1 0 (zero ∷ 71 ∷ 72 ∷ []) ×
+    RunsTo (given sample 5 (half 17 0 0)) (21 ∷ 17 ∷ 22 ∷ []) three (given sample 5 (half 17 1 0)) 2 2 (zero ∷ one ∷ 72 ∷ []) ×
+    RunsTo (given sample 5 (half 17 0 0)) (64 ∷ 21 ∷ []) three (given sample 5 (half 17 0 0)) 0 1 three ×
+    RunsTo (given sample 5 (half 17 0 0)) (21 ∷ []) three (given sample 5 (half 21 0 16)) 1 0 (zero ∷ 71 ∷ 72 ∷ []) ×
     -- "An empty run is done at once."
-    RunsTo (sample, 5, half 17 1 1) [] three (sample, 5, half 17 1 1) 0 0 three ×
+    RunsTo (given sample 5 (half 17 1 1)) [] three (given sample 5 (half 17 1 1)) 0 0 three ×
     -- The last steps of the write, and of the blow.
-    RunsTo (sample, 5, half 13 96 72) (5 ∷ 21 ∷ 17 ∷ []) three (set sample 12 127, 5, half 17 96 65) 3 0
+    RunsTo (given sample 5 (half 13 96 72)) (5 ∷ 21 ∷ 17 ∷ []) three (given (set sample 12 127) 5 (half 17 96 65)) 3 0
     (released ∷ released ∷ zero ∷ []) ×
-    RunsTo (sample, 7, half 23 1504 9) (19 ∷ 17 ∷ []) three (sample, 3, half 17 0 1) 2 0 (released ∷ zero ∷ 72 ∷ []) ×
+    RunsTo (given sample 7 (half 23 1504 9)) (19 ∷ 17 ∷ []) three (given sample 3 (half 17 0 1)) 2 0 (released ∷ zero ∷ 72 ∷ []) ×
     -- 10, 14, 9, 18 and 19; the first step is the write.
-    RunRefused (take 173 sample, 8, half 21 96 200) (replicate 4097 17) three 10 ×
-    RunRefused (sample, 8, half 21 96 200) (replicate 4097 17) three 14 ×
-    RunRefused (sample, 5, half 21 96 200) (replicate 4097 17) three 9 ×
-    RunRefused (sample, 5, half 21 96 72) (replicate 4097 17) three 18 ×
-    RunRefused (sample, 5, half 21 96 72) (17 ∷ 17 ∷ 17 ∷ 17 ∷ []) three 19
+    RunRefused (given (take 173 sample) 8 (half 21 96 200)) (replicate 4097 17) three 10 ×
+    RunRefused (given sample 8 (half 21 96 200)) (replicate 4097 17) three 14 ×
+    RunRefused (given sample 5 (half 21 96 200)) (replicate 4097 17) three 9 ×
+    RunRefused (given sample 5 (half 21 96 72)) (replicate 4097 17) three 18 ×
+    RunRefused (given sample 5 (half 21 96 72)) (17 ∷ 17 ∷ 17 ∷ 17 ∷ []) three 19
 
 -- "A separate call reads flags, refusing by 9": SV, P1, R1 and E1, each alone; then programming, latch and match, which it leaves out.
 abbrev pub Flags-told : Type 0
@@ -97,7 +93,7 @@ Flags-told =
     (half 17 1231 32, Barred 9) ∷
     (half 17 0 128, Barred 9) ∷
     []) ×
-    Gives flagsNumber ((Held true true true true, 0) ∷ (Barred 9, 9) ∷ (Barred 1, 1) ∷ []) ×
+    Gives flagsRefused ((Held true true true true, 0) ∷ (Barred 9, 9) ∷ (Barred 1, 1) ∷ []) ×
     Gives flagsHeld
     ((Held true false false false, (true, (false, (false, false)))) ∷
     (Held false true false false, (false, (true, (false, false)))) ∷

@@ -1,89 +1,113 @@
 -- What each call of the card answers and leaves, for every input.
-use Prim.Native.Nat.{ℕ}
+use Prim.Native.Nat.{ℕ, _+_, _/_}
 use mathlib.Core.Path.{_≡_}
-use mathlib.Core.Bool.{Bool, false, cond}
-use mathlib.Core.List.{List}
-use lib.Dec.{eqb}
+use mathlib.Core.Bool.{Bool, false, cond, _&&_, _||_}
+use mathlib.Core.List.{List, []}
+use lib.Dec.{eqb, ltb, leb}
+use lib.Bits.{bitAnd, bitXor}
 use lib.ListN.{length}
+use Rattle.memory.specs.Image.{bytes, digit}
+use Rattle.rules.specs.declared.Answer.{Answer}
 use Rattle.rules.specs.declared.Answer.the-variants.{Refused}
-use Rattle.rules.specs.Card as Rules
+use Rattle.rules.specs.Halves.{Card}
+use Rattle.rules.specs.Zones.{between}
+use Rattle.rules.specs.Steps.{clkRises, next, pin}
+use Rattle.rules.specs.Card.{refusalIn, pinIn, stepped, answered, run, answersIn}
 use Rattle.volatile.specs.declared.Volatile.{Volatile}
+use Rattle.volatile.specs.Packed.{packed, unpacked, Given, given, cardOf, handedBack, madeUpWord, goneOn}
+use Rattle.refusals.specs.Before.{givenRefusal, givenRunRefusal}
 use Rattle.card.specs.declared.Stepped.{Stepped}
+use Rattle.card.specs.declared.Told.{Told}
+use Rattle.card.specs.declared.Walked.{Walked}
 use Rattle.card.specs.declared.Ran.{Ran}
 use Rattle.card.specs.declared.FlagsAnswer.{FlagsAnswer}
 use Rattle.card.specs.declared.FlagsAnswer.the-variants.{Held, Refused as Barred}
-use Rattle.volatile.specs.Packed.{packed, unpacked, cardOf, madeUpWord}
-use Rattle.refusals.specs.Numbers.{stateNumber, runNumber}
 
--- A step's answer, with the halves that are handed back.
-unfoldable pub stepAnswer : List ℕ → ℕ → Volatile → ℕ → Stepped
-unfolding packed stateNumber
-stepAnswer m fuses v n =
-    let c = cardOf m fuses v in
-    let k = stateNumber m fuses v in
-    cond (eqb k 0)
-    (record {
-      fuses = Rules.stepped c n .fuses;
-      volatile = packed (Rules.stepped c n .volatile);
-      answer = Rules.answered c n;
-    })
-    (record { fuses = fuses; volatile = v; answer = Refused k })
+-- The card that a step leaves, and its answer.
+unfoldable pub stepLeaves : Given → ℕ → Given
+unfolding packed givenRefusal
+stepLeaves g n = cond (eqb (givenRefusal g) 0) (handedBack (stepped (cardOf g) n)) g
 
--- The image after a step.
-unfoldable pub stepMemory : List ℕ → ℕ → Volatile → ℕ → List ℕ
-unfolding stateNumber
-stepMemory m fuses v n = cond (eqb (stateNumber m fuses v) 0) (Rules.stepped (cardOf m fuses v) n .memory) m
+unfoldable pub stepAnswer : Given → ℕ → Answer
+unfolding givenRefusal
+stepAnswer g n = cond (eqb (givenRefusal g) 0) (answered (cardOf g) n) (Refused (givenRefusal g))
 
--- The result of a run from a packed half, in the card's own terms.
-unfoldable pub ranOn : List ℕ → ℕ → Volatile → List ℕ → Rules.Ran
-ranOn m fuses v steps = Rules.run (cardOf m fuses v) steps
+-- The card that a run leaves, its answers, and its refusal, 0 if none.
+unfoldable pub runLeaves : Given → List ℕ → ℕ → Given
+unfolding packed givenRunRefusal
+runLeaves g steps room = cond (eqb (givenRunRefusal g (length steps) room) 0) (handedBack (run (cardOf g) steps .card)) g
 
-unfoldable pub runAnswer : List ℕ → ℕ → Volatile → List ℕ → ℕ → Ran
-unfolding packed runNumber ranOn
-runAnswer m fuses v steps room =
-    let k = runNumber m fuses v (length steps) room in
-    let r = ranOn m fuses v steps in
-    cond (eqb k 0)
-    (record {
-      fuses = r .card .fuses;
-      volatile = packed (r .card .volatile);
-      done = length (r .answers);
-      refusal = r .refused;
-    })
-    (record { fuses = fuses; volatile = v; done = 0; refusal = k })
+unfoldable pub runAnswers : Given → List ℕ → ℕ → List ℕ
+unfolding givenRunRefusal
+runAnswers g steps room = cond (eqb (givenRunRefusal g (length steps) room) 0) (run (cardOf g) steps .answers) []
 
-unfoldable pub runMemory : List ℕ → ℕ → Volatile → List ℕ → ℕ → List ℕ
-unfolding runNumber ranOn
-runMemory m fuses v steps room = cond (eqb (runNumber m fuses v (length steps) room) 0) (ranOn m fuses v steps .card .memory) m
-
--- The lent answers after a run.
-unfoldable pub runAnswers : List ℕ → ℕ → Volatile → List ℕ → List ℕ → List ℕ
-unfolding runNumber ranOn
-runAnswers m fuses v steps answers =
-    cond (eqb (runNumber m fuses v (length steps) (length answers)) 0)
-    (Rules.answersIn (ranOn m fuses v steps .answers) answers)
-    answers
+unfoldable pub runRefused : Given → List ℕ → ℕ → ℕ
+unfolding givenRunRefusal
+runRefused g steps room =
+    let k = givenRunRefusal g (length steps) room in
+    cond (eqb k 0) (run (cardOf g) steps .refused) k
 
 -- A step of whatever comes in.
-pub record StepAnswered (m : List ℕ) (fuses : ℕ) (v : Volatile) (n : ℕ) (r : Stepped) (after : List ℕ) : Type 0 where
-  pub answer : r ≡ stepAnswer m fuses v n
-  pub memory : after ≡ stepMemory m fuses v n
+pub record StepAnswered (g : Given) (n : ℕ) (r : Stepped) (after : List ℕ) : Type 0 where
+  pub card : given after (r .fuses) (r .volatile) ≡ stepLeaves g n
+  pub answer : r .answer ≡ stepAnswer g n
+
+-- The same in plain numbers.
+pub record StepTold (g : Given) (n : ℕ) (r : Told) (after : List ℕ) : Type 0 where
+  pub card : given after (r .fuses) (r .volatile) ≡ stepLeaves g n
+  pub pin : r .pin ≡ pinIn (stepAnswer g n)
+  pub refusal : r .refusal ≡ refusalIn (stepAnswer g n)
+
+-- A step that walks: CLK alone rises or falls, with VCC on, RST and PGM low, of a card that 10, 14 and 9 let pass, where nothing is compared,
+-- nothing comes of an arrival and no table of rights has a say. Of the flags above R1 none is set, or the latch alone and CLK high.
+unfoldable pub calm : Volatile → ℕ → Bool
+calm v n = eqb (bitXor (v .lines) n) 4 && (eqb (v .flags / 8) 0 || eqb (v .flags / 8) (bitAnd (v .lines) 4 / 2))
+
+-- Addresses at which that holds: within FZ and IZ, in SCAC past the end of match and within CPZ, within AZ past its flags, within EC, and past
+-- the first of MTZ.
+unfoldable pub plainAt : ℕ → Bool
+plainAt a = ltb a 80 || (between 105 175 a || (between 178 1198 a || (between 1233 1359 a || between 1361 1519 a)))
+
+-- The half after CLK's rise or fall there.
+unfoldable pub walkedHalf : Volatile → ℕ → Volatile
+unfolding packed
+walkedHalf v n = packed (cond (digit 2 n) (clkRises n (unpacked v)) (goneOn n (v .address + 1) (unpacked v)))
+
+unfoldable pub walks : Given → ℕ → Bool
+unfolding calm plainAt walkedHalf
+walks g n =
+    eqb (bitAnd n 203) 1 &&
+    (calm (g .half) n &&
+    (ltb (g .half .address) 1519 &&
+    (eqb (length (g .memory)) bytes && (leb (g .fuses) 7 && plainAt (walkedHalf (g .half) n .address)))))
+
+-- The half and the pin of such a step; of any other the half as it came, and 255.
+abbrev pub walkTo : Card → Walked
+walkTo c = record { volatile = packed (c .volatile); pin = pin c }
+
+abbrev pub noWalk : Volatile → Walked
+noWalk v = record { volatile = v; pin = 255 }
+
+unfoldable pub walkOf : Given → ℕ → Walked
+unfolding walks
+walkOf g n = cond (walks g n) (walkTo (next (cardOf g) n)) (noWalk (g .half))
 
 -- A run of whatever comes in.
-pub record RunAnswered (m : List ℕ) (fuses : ℕ) (v : Volatile) (steps answers : List ℕ) (r : Ran) (after told : List ℕ) : Type 0 where
-  pub answer : r ≡ runAnswer m fuses v steps (length answers)
-  pub memory : after ≡ runMemory m fuses v steps (length answers)
-  pub pins : told ≡ runAnswers m fuses v steps answers
+pub record RunAnswered (g : Given) (steps answers : List ℕ) (r : Ran) (after told : List ℕ) : Type 0 where
+  pub card : given after (r .fuses) (r .volatile) ≡ runLeaves g steps (length answers)
+  pub done : r .done ≡ length (runAnswers g steps (length answers))
+  pub refusal : r .refusal ≡ runRefused g steps (length answers)
+  pub pins : told ≡ answersIn (runAnswers g steps (length answers)) answers
 
 -- "A separate call reads flags, refusing by 9".
 unfoldable pub flagsOf : Volatile → FlagsAnswer
 unfolding madeUpWord unpacked
 flagsOf v = cond (madeUpWord v) (Barred 9) (Held (unpacked v .sv) (unpacked v .p1) (unpacked v .r1) (unpacked v .e1))
 
--- 01's number for each case of the flags' answer, and the flags SV, P1, R1 and E1, none where refused.
-unfoldable pub flagsNumber : FlagsAnswer → ℕ
-flagsNumber (Held sv p1 r1 e1) = 0
-flagsNumber (Barred k) = k
+-- The refusal in the flags' answer, 0 where it is none, and the flags SV, P1, R1 and E1, none where refused.
+unfoldable pub flagsRefused : FlagsAnswer → ℕ
+flagsRefused (Held sv p1 r1 e1) = 0
+flagsRefused (Barred k) = k
 
 unfoldable pub flagsHeld : FlagsAnswer → Bool × (Bool × (Bool × Bool))
 flagsHeld (Held sv p1 r1 e1) = (sv, (p1, (r1, e1)))

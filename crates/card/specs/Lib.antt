@@ -1,3 +1,3 @@
-pub mod Moves
 pub mod Contracts
+pub mod Moves
 pub mod Cases

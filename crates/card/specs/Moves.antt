@@ -1,89 +1,91 @@
 -- One step inside the card: what the private functions of the loop take for granted and what they hand on.
-use Prim.Native.Nat.{ℕ, _+_, _≤_, _<_}
-use mathlib.Core.Logic.{_⊎_}
+use Prim.Native.Nat.{ℕ, _≤_, _<_}
 use mathlib.Core.Path.{_≡_}
-use mathlib.Core.Bool.{Bool, false, cond}
-use mathlib.Core.List.{List, []}
-use lib.Dec.{eqb}
+use mathlib.Core.Bool.{true, false}
+use mathlib.Core.List.{List}
+use lib.Dec.{eqb, ltb}
+use lib.Bits.{bitAnd}
 use lib.ListN.{length}
-use Rattle.memory.specs.Image.{bytes}
+use Rattle.memory.specs.Image.{bytes, digit, bit}
 use Rattle.rules.specs.declared.Operation.{Operation}
+use Rattle.rules.specs.Halves as Halves
 use Rattle.rules.specs.Halves.{Card}
-use Rattle.rules.specs.Programming.{fusesAfter, turns}
+use Rattle.rules.specs.Zones.{zone}
+use Rattle.rules.specs.Rights.{held, mayRead}
+use Rattle.rules.specs.Programming.{operationNow, fusesAfter, turns}
 use Rattle.rules.specs.Refusals.{refusal}
-use Rattle.rules.specs.Card.{stepped, Ran, run, answersIn}
-use Rattle.rules.specs.Steps.{programmed, next, driven, pin}
+use Rattle.rules.specs.Steps.{programmed, next, driven, pinValue, pin}
 use Rattle.volatile.specs.declared.Volatile.{Volatile}
-use Rattle.volatile.specs.Packed.{packed, unpacked, cardOf, madeUpWord, goneOn, operationNow}
-use Rattle.card.specs.declared.handed.Moved.{Moved}
-use Rattle.card.specs.declared.Ran as Declared
+use Rattle.volatile.specs.Packed.{packed, unpacked, Given, given, cardOf, handedBack, withHalf, madeUpWord}
+use Rattle.card.specs.Contracts.{calm, plainAt}
+use Rattle.card.specs.declared.moved.Moved.{Moved}
+use Rattle.card.specs.declared.moved.Left.{Left}
 use Rattle.card.specs.declared.programming.Done.{Done}
 use Rattle.card.specs.declared.quick.Quick.{Quick}
 use Rattle.card.specs.declared.quick.Quick.the-variants.{To, Other}
 
 -- A card that 10, 14 and 9 let pass, with its pin at hand.
-pub record Ready (m : List ℕ) (fuses : ℕ) (v : Volatile) (p : ℕ) : Type 0 where
-  pub sized : length m ≡ bytes
-  pub fused : fuses ≤ 7
-  pub sound : madeUpWord v ≡ false
-  pub pinned : p ≡ pin (cardOf m fuses v)
+pub record Ready (g : Given) (p : ℕ) : Type 0 where
+  pub sized : length (g .memory) ≡ bytes
+  pub fused : g .fuses ≤ 7
+  pub sound : madeUpWord (g .half) ≡ false
+  pub pinned : p ≡ pin (cardOf g)
 
-abbrev pub moved : Volatile → ℕ → ℕ → ℕ → Moved
-moved v fuses p k = record { volatile = v; fuses = fuses; pin = p; refusal = k }
+-- A step of such a card: what it leaves, the pin, and the refusal, 0 if none. "A refused step changes nothing".
+pub record Steps (g : Given) (p n : ℕ) (left : Given) (shown k : ℕ) : Type 0 where
+  pub refused : k ≡ refusal (unpacked (g .half)) n
+  pub accepted : k ≡ 0 → (left ≡ handedBack (next (cardOf g) n)) × (shown ≡ pin (next (cardOf g) n))
+  pub kept : (k ≡ 0 → ⊥) → (left ≡ g) × (shown ≡ p)
 
--- An accepted step has led to this card.
+-- A step that leaves image and fuses as they are.
+abbrev pub Moves : Given → ℕ → ℕ → Moved → Type 0
+Moves g p n r = Steps g p n (withHalf g (r .volatile)) (r .pin) (r .refusal)
+
+abbrev pub moved : Volatile → ℕ → ℕ → Moved
+moved v p k = record { volatile = v; pin = p; refusal = k }
+
+-- An accepted step has led to this card, whose image and fuses are as they were.
 abbrev pub movedTo : Card → Moved
-movedTo c = moved (packed (c .volatile)) (c .fuses) (pin c) 0
+movedTo c = moved (packed (c .volatile)) (pin c) 0
 
 -- The card after CLK's fall in programming.
-unfoldable pub programmedCard : List ℕ → ℕ → Volatile → ℕ → Card
-programmedCard m fuses v n = programmed (operationNow fuses (unpacked v)) n (cardOf m fuses v)
+unfoldable pub programmedCard : Given → ℕ → Card
+programmedCard g n = programmed (operationNow (g .fuses) (unpacked (g .half))) n (cardOf g)
 
--- Addresses from which a move compares nothing and arrives where nothing comes of it: within FZ and IZ, within AZ past its flags, in SCAC
--- past the end of match and within CPZ, within EC, and from MTZ up to the last.
-abbrev pub Plain : ℕ → Type 0
-Plain a =
-    (a < 79) ⊎ (((177 ≤ a) × (a < 1198)) ⊎ (((104 ≤ a) × (a < 175)) ⊎ (((1232 ≤ a) × (a < 1359)) ⊎ ((1360 ≤ a) × (a < 1519)))))
+-- A step that may change image and fuses.
+abbrev pub Leaves : Given → ℕ → ℕ → Left → List ℕ → Type 0
+Leaves g p n r after = Steps g p n (given after (r .fuses) (r .volatile)) (r .pin) (r .refusal)
 
--- The pin is driven after such a move.
-unfoldable pub driven-on : ℕ → Volatile → ℕ → Bool
-driven-on fuses v n = driven (record { memory = []; fuses = fuses; volatile = goneOn n (v .address + 1) (unpacked v) })
+abbrev pub leftBy : Moved → ℕ → Left
+leftBy r fuses = record { fuses = fuses; volatile = r .volatile; pin = r .pin; refusal = r .refusal }
 
--- The halves, the pin and 0 after an accepted step; all as it came and the refusal after a refused one.
-unfoldable pub movedBy : List ℕ → ℕ → Volatile → ℕ → ℕ → Moved
-movedBy m fuses v p n =
-    let c = cardOf m fuses v in
-    let k = refusal (unpacked v) n in
-    cond (eqb k 0)
-    (movedTo (next c n)) (moved v fuses p k)
+-- An accepted step has led to this card.
+abbrev pub leftAs : Card → Left
+leftAs c = record { fuses = c .fuses; volatile = packed (c .volatile); pin = pin c; refusal = 0 }
 
 -- What an operation leaves beside the image.
 unfoldable pub doneBy : Operation → List ℕ → ℕ → ℕ → Done
 doneBy op m fuses a = record { fuses = fusesAfter op fuses; turned = turns op m a }
 
--- A step of the card: its result, and the image it leaves.
-pub record Steps (m : List ℕ) (fuses : ℕ) (v : Volatile) (p n : ℕ) (r : Moved) (after : List ℕ) : Type 0 where
-  pub moved-is : r ≡ movedBy m fuses v p n
-  pub memory-is : after ≡ stepped (cardOf m fuses v) n .memory
+-- What the pin shows at an address that a walk comes to: 1 its bit, 0 nothing; 2 where none does.
+pub record Shows (a flags r : ℕ) : Type 0 where
+  pub plain : plainAt a ≡ ltb r 2
+  pub small : r ≤ 2
+  pub read :
+      r < 2 → (fuses : ℕ) (v : Halves.Volatile) → v .sv ≡ digit 0 flags → v .r1 ≡ digit 2 flags → mayRead (held fuses v) (zone a) ≡ eqb r 1
+
+-- A card and a step that walk, if the address is one at which a walk can be.
+pub record Calm (g : Given) (n : ℕ) : Type 0 where
+  pub byte : n < 256
+  pub still : bitAnd n 203 ≡ 1
+  pub turns : calm (g .half) n ≡ true
+  pub address : g .half .address < 1519
+  pub sized : length (g .memory) ≡ bytes
+  pub fused : g .fuses ≤ 7
 
 -- Where a half is named, a sound card's step leads to it and changes nothing else.
 unfoldable pub QuickTo : Volatile → ℕ → Quick → Type 0
 QuickTo v n (To after) =
-    (m : List ℕ) (fuses p : ℕ) → Ready m fuses v p → Steps m fuses v p n (moved after fuses (pin (cardOf m fuses after)) 0) m
+    (m : List ℕ) (fuses p : ℕ) → Ready (given m fuses v) p →
+    Steps (given m fuses v) p n (given m fuses after) (pinValue (driven fuses (unpacked after)) (bit m (after .address))) 0
 QuickTo v n Other = Unit
-
--- The result of a run of a sound card.
-unfoldable pub ranTo : Ran → Declared.Ran
-ranTo r =
-    record {
-      fuses = r .card .fuses;
-      volatile = packed (r .card .volatile);
-      done = length (r .answers);
-      refusal = r .refused;
-    }
-
--- A run: its result, and the image and the answers that it leaves.
-pub record Runs (m : List ℕ) (fuses : ℕ) (v : Volatile) (steps answers : List ℕ) (r : Declared.Ran) (after told : List ℕ) : Type 0 where
-  pub ran-is : r ≡ ranTo (run (cardOf m fuses v) steps)
-  pub memory-is : after ≡ run (cardOf m fuses v) steps .card .memory
-  pub answers-are : told ≡ answersIn (run (cardOf m fuses v) steps .answers) answers

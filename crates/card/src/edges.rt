@@ -1,16 +1,25 @@
-// What each line does when it rises or falls.
-use crate::handed;
-use crate::handed::Moved;
-use crate::programming;
+// What each line does when it rises or falls, where image and fuses stay: all but CLK and VCC while programming is under way.
+use crate::moved;
+use crate::moved::Moved;
+use crate::walk;
 use memory::is_set;
 use volatile::Volatile;
 ghost use mathlib.Core.Path.{_≡_};
+ghost use mathlib.Core.Bool.{false};
 ghost use Prim.Native.Nat.{_≤_};
 ghost use lib.Bits.{bitXor};
+ghost use Rattle.memory.specs.Image.{digit};
 ghost use Rattle.rules.specs.Match.{following};
-ghost use Rattle.rules.specs.Steps.{pin, clocked};
-ghost use Rattle.volatile.specs.Packed.{cardOf};
-ghost use Rattle.card.specs.Moves.{Ready, movedTo, Plain, driven-on, Steps};
+ghost use Rattle.rules.specs.Steps.{clocked};
+ghost use Rattle.volatile.specs.Packed.{given, cardOf};
+ghost use Rattle.card.specs.Moves.{Ready, Moves, movedTo};
+
+// Masks of lines.
+const VCC_RST: u32 = 3;
+
+const CLK_PGM: u32 = 12;
+
+const VCC_CLK_PGM: u32 = 13;
 
 // The address goes up by one, 1519 going to 0.
 pub(crate) fn following(a: u32) -> u32
@@ -23,136 +32,158 @@ pub(crate) fn following(a: u32) -> u32
     a + 1
 }
 
-// CLK falls where nothing is compared and nothing comes of the arrival: on by one, to a bit that is driven or not.
-pub(crate) fn clock_goes_on(v: Volatile, image: &[u8], fuses: u8, n: u32, driven: bool) -> Moved
-    requires plain { ⌜ Plain (v .address) ⌝ }
-    requires pin { ⌜ driven ≡ driven-on fuses v n ⌝ }
-    ensures { λ r. ⌜ r ≡ movedTo (clocked n (cardOf (now (image .entry)) fuses v)) ⌝ }
-{
-    let a = v.address + 1;
-    let next = v.goes_on(n, a);
-    if driven & !memory::read_bit(image, a as usize) {
-        return handed::kept(next, fuses, 0);
-    }
-    handed::kept(next, fuses, 1)
-}
-
-// CLK falls with RST low and no programming: compare, and on by one.
-pub(crate) fn clock_moves(v: Volatile, image: &[u8], fuses: u8, n: u32) -> Moved
-    requires { ⌜ v .address ≤ 1519 ⌝ }
-    ensures { λ r. ⌜ r ≡ movedTo (clocked n (cardOf (now (image .entry)) fuses v)) ⌝ }
-{
-    let a = v.address;
-    let matched = v.compared(image, v.level1(fuses));
-    let next = v.unlatched(n, matched).arrives(image, fuses, following(a));
-    handed::accepted(next, image, fuses)
-}
-
-// CLK falls with RST low and no programming, most often in a zone that is walked over or read out.
+// CLK falls with RST low: compare, and on by one.
 pub(crate) fn clock_counts(v: Volatile, image: &[u8], fuses: u8, n: u32) -> Moved
     requires { ⌜ v .address ≤ 1519 ⌝ }
-    ensures { λ r. ⌜ r ≡ movedTo (clocked n (cardOf (now (image .entry)) fuses v)) ⌝ }
+    ensures { λ r. ⌜ r ≡ movedTo (clocked n (cardOf (given (now (image .entry)) fuses v))) ⌝ }
 {
-    let a = v.address;
-    if n & 11 == 1 {
-        if a < 79 {
-            return clock_goes_on(v, image, fuses, n, true);
-        }
-        if 177 <= a {
-            if a < 1198 {
-                return clock_goes_on(v, image, fuses, n, v.flags & 5 != 0);
-            }
-        }
-    }
-    clock_moves(v, image, fuses, n)
+    let matched = v.compared(image, v.level1(fuses));
+    let next = v.unlatched(n, matched)
+        .arrives(image, fuses, following(v.address));
+    moved::read(next, image, fuses)
 }
 
-// CLK rises or falls.
-pub(crate) fn clock(v: Volatile, image: &mut [u8], fuses: u8, pin: u8, n: u32) -> Moved
-    requires ready { ⌜ Ready (now image) fuses v pin ⌝ }
+// CLK falls and no programming is under way.
+pub(crate) fn clock_falls(v: Volatile, image: &[u8], fuses: u8, pin: u8, n: u32) -> Moved
+    requires ready { ⌜ Ready (given (now image) fuses v) pin ⌝ }
+    requires idle { ⌜ digit 3 (v .flags) ≡ false ⌝ }
     requires line { ⌜ bitXor (v .lines) n ≡ 4 ⌝ }
-    ensures { λ r. ⌜ Steps (now (image .entry)) fuses v pin n r (now (image .exit)) ⌝ }
+    requires low { ⌜ digit 2 n ≡ false ⌝ }
+    ensures { λ r. ⌜ Moves (given (now (image .entry)) fuses v) pin n r ⌝ }
 {
-    let lines = v.lines;
-    if !is_set(lines, volatile::VCC) {
-        return handed::kept(v.follows(n), fuses, pin);
-    }
-    if !is_set(lines, volatile::CLK) {
-        return handed::kept(v.clock_rises(n), fuses, pin);
-    }
-    if is_set(v.flags, volatile::PROGRAMMING) {
-        if is_set(lines, volatile::PGM) {
-            return handed::refused(v, fuses, pin, 4);
+    let a = v.address + 1;
+    if n & 11 == 1 {
+        let shown = walk::shows(a, v.flags);
+        if shown != walk::APART {
+            let bit = memory::read_bit(image, a as usize);
+            return moved::known(
+                v.goes_on(n, a),
+                volatile::pin_value(shown == walk::BIT, bit),
+            );
         }
-        return programming::clock_programs(v, image, fuses, n);
     }
-    if is_set(lines, volatile::RST) {
+    if !is_set(n, volatile::VCC) {
+        return moved::known(v.follows(n), pin);
+    }
+    if is_set(n, volatile::RST) {
         let matched = is_set(v.flags, volatile::MATCH);
-        return handed::kept(v.unlatched(n, matched), fuses, pin);
+        return moved::known(v.unlatched(n, matched), pin);
     }
     clock_counts(v, image, fuses, n)
 }
 
+// CLK rises or falls and no programming is under way.
+pub(crate) fn clock(v: Volatile, image: &[u8], fuses: u8, pin: u8, n: u32) -> Moved
+    requires ready { ⌜ Ready (given (now image) fuses v) pin ⌝ }
+    requires idle { ⌜ digit 3 (v .flags) ≡ false ⌝ }
+    requires line { ⌜ bitXor (v .lines) n ≡ 4 ⌝ }
+    ensures { λ r. ⌜ Moves (given (now (image .entry)) fuses v) pin n r ⌝ }
+{
+    if !is_set(n, volatile::CLK) {
+        return clock_falls(v, image, fuses, pin, n);
+    }
+    if is_set(n, volatile::VCC) {
+        return moved::known(v.clock_rises(n), pin);
+    }
+    moved::known(v.follows(n), pin)
+}
+
 // PGM rises or falls.
 pub(crate) fn program(v: Volatile, image: &[u8], fuses: u8, pin: u8, n: u32) -> Moved
-    requires ready { ⌜ Ready (now image) fuses v pin ⌝ }
+    requires ready { ⌜ Ready (given (now image) fuses v) pin ⌝ }
     requires line { ⌜ bitXor (v .lines) n ≡ 8 ⌝ }
-    ensures { λ r. ⌜ Steps (now (image .entry)) fuses v pin n r (now (image .entry)) ⌝ }
+    ensures { λ r. ⌜ Moves (given (now (image .entry)) fuses v) pin n r ⌝ }
 {
-    let lines = v.lines;
-    let rising = !is_set(lines, volatile::PGM);
-    if is_set(lines, volatile::VCC) & (is_set(lines, volatile::CLK) & rising) {
-        return handed::refused(v, fuses, pin, 6);
+    if n & VCC_CLK_PGM == VCC_CLK_PGM {
+        return moved::refused(v, pin, 6);
     }
-    handed::accepted(v.follows(n), image, fuses)
+    moved::read(v.follows(n), image, fuses)
 }
 
 // RST rises or falls.
 pub(crate) fn reset(v: Volatile, image: &[u8], fuses: u8, pin: u8, n: u32) -> Moved
-    requires ready { ⌜ Ready (now image) fuses v pin ⌝ }
+    requires ready { ⌜ Ready (given (now image) fuses v) pin ⌝ }
     requires line { ⌜ bitXor (v .lines) n ≡ 2 ⌝ }
-    ensures { λ r. ⌜ Steps (now (image .entry)) fuses v pin n r (now (image .entry)) ⌝ }
+    ensures { λ r. ⌜ Moves (given (now (image .entry)) fuses v) pin n r ⌝ }
 {
-    let lines = v.lines;
-    if !is_set(lines, volatile::VCC) {
-        return handed::accepted(v.follows(n), image, fuses);
-    }
     if is_set(v.flags, volatile::PROGRAMMING) {
-        return handed::refused(v, fuses, pin, 3);
+        return moved::refused(v, pin, 3);
     }
-    if !is_set(lines, volatile::RST) {
-        return handed::accepted(v.follows(n), image, fuses);
+    if n & VCC_RST != 1 {
+        return moved::read(v.follows(n), image, fuses);
     }
-    if is_set(lines, volatile::CLK) {
-        return handed::refused(v, fuses, pin, 5);
+    if is_set(n, volatile::CLK) {
+        return moved::refused(v, pin, 5);
     }
-    handed::accepted(v.reset_falls(n), image, fuses)
+    moved::read(v.reset_falls(n), image, fuses)
 }
 
 // FUS rises or falls.
 pub(crate) fn fuse(v: Volatile, image: &[u8], fuses: u8, pin: u8, n: u32) -> Moved
-    requires ready { ⌜ Ready (now image) fuses v pin ⌝ }
+    requires ready { ⌜ Ready (given (now image) fuses v) pin ⌝ }
     requires line { ⌜ bitXor (v .lines) n ≡ 32 ⌝ }
-    ensures { λ r. ⌜ Steps (now (image .entry)) fuses v pin n r (now (image .entry)) ⌝ }
+    ensures { λ r. ⌜ Moves (given (now (image .entry)) fuses v) pin n r ⌝ }
 {
-    if is_set(v.lines, volatile::VCC) & is_set(v.flags, volatile::PROGRAMMING) {
-        return handed::refused(v, fuses, pin, 3);
+    if is_set(v.flags, volatile::PROGRAMMING) {
+        return moved::refused(v, pin, 3);
     }
-    handed::accepted(v.follows(n), image, fuses)
+    moved::read(v.follows(n), image, fuses)
 }
 
 // VCC rises or falls.
 pub(crate) fn power(v: Volatile, image: &[u8], fuses: u8, pin: u8, n: u32) -> Moved
-    requires ready { ⌜ Ready (now image) fuses v pin ⌝ }
+    requires ready { ⌜ Ready (given (now image) fuses v) pin ⌝ }
     requires line { ⌜ bitXor (v .lines) n ≡ 1 ⌝ }
-    ensures { λ r. ⌜ Steps (now (image .entry)) fuses v pin n r (now (image .entry)) ⌝ }
+    ensures { λ r. ⌜ Moves (given (now (image .entry)) fuses v) pin n r ⌝ }
 {
-    let lines = v.lines;
-    if is_set(lines, volatile::VCC) {
-        return handed::kept(v.power_falls(n), fuses, 1);
+    if !is_set(n, volatile::VCC) {
+        return moved::known(v.power_falls(n), volatile::RELEASED);
     }
-    if is_set(lines, volatile::CLK) | is_set(lines, volatile::PGM) {
-        return handed::refused(v, fuses, pin, 7);
+    if n & CLK_PGM != 0 {
+        return moved::refused(v, pin, 7);
     }
-    handed::accepted(v.follows(n), image, fuses)
+    moved::read(v.follows(n), image, fuses)
+}
+
+// A step that turns over none of CLK, I/O and PGM.
+pub(crate) fn other_line(v: Volatile, image: &[u8], fuses: u8, pin: u8, n: u32) -> Moved
+    requires ready { ⌜ Ready (given (now image) fuses v) pin ⌝ }
+    requires clock { ⌜ (bitXor (v .lines) n ≡ 4 → ⊥) ⌝ }
+    requires io { ⌜ (bitXor (v .lines) n ≡ 16 → ⊥) ⌝ }
+    requires program { ⌜ (bitXor (v .lines) n ≡ 8 → ⊥) ⌝ }
+    ensures { λ r. ⌜ Moves (given (now (image .entry)) fuses v) pin n r ⌝ }
+{
+    if 63 < n {
+        return moved::refused(v, pin, 1);
+    }
+    let d = v.lines ^ n;
+    if d == 0 {
+        return moved::known(v, pin);
+    }
+    if d == 2 {
+        return reset(v, image, fuses, pin, n);
+    }
+    if d == 32 {
+        return fuse(v, image, fuses, pin, n);
+    }
+    if d == 1 {
+        return power(v, image, fuses, pin, n);
+    }
+    moved::refused(v, pin, 2)
+}
+
+// A step that does not turn over CLK.
+pub(crate) fn other_than_clock(v: Volatile, image: &[u8], fuses: u8, pin: u8, n: u32) -> Moved
+    requires ready { ⌜ Ready (given (now image) fuses v) pin ⌝ }
+    requires clock { ⌜ (bitXor (v .lines) n ≡ 4 → ⊥) ⌝ }
+    ensures { λ r. ⌜ Moves (given (now (image .entry)) fuses v) pin n r ⌝ }
+{
+    let d = v.lines ^ n;
+    if d == 16 {
+        return moved::known(v.follows(n), pin);
+    }
+    if d == 8 {
+        return program(v, image, fuses, pin, n);
+    }
+    other_line(v, image, fuses, pin, n)
 }

@@ -4,24 +4,32 @@ use quick::Quick;
 use rules::Answer;
 use volatile::Volatile;
 ghost use mathlib.Core.Path.{_≡_};
-ghost use Prim.Native.Nat.{_≤_};
 ghost use lib.ListN.{length};
 ghost use Rattle.rules.specs.Card.{triesLeft};
-ghost use Rattle.card.specs.Moves.{Runs};
-ghost use Rattle.refusals.specs.Numbers.{stateNumber};
-ghost use Rattle.card.specs.Contracts.{StepAnswered, RunAnswered, flagsOf};
+ghost use Rattle.volatile.specs.Packed.{given};
+ghost use Rattle.refusals.specs.Before.{givenRefusal, givenRunRefusal};
+ghost use Rattle.card.specs.Contracts.{StepAnswered, StepTold, walkOf, RunAnswered, flagsOf};
 
-mod by_line;
 mod edges;
-mod handed;
+mod inner_step;
+mod moved;
 mod programming;
 mod quick;
+mod walk;
 
 // The result of a step: both halves, and the pin's answer or the refusal.
 pub struct Stepped {
     pub fuses: u8,
     pub volatile: Volatile,
     pub answer: Answer,
+}
+
+// The same in plain numbers: both halves, the pin's answer, 1 where refused, and the refusal, 0 if none.
+pub struct Told {
+    pub fuses: u8,
+    pub volatile: Volatile,
+    pub pin: u8,
+    pub refusal: u8,
 }
 
 // The result of a run: both halves, how many steps were done, and the refusal, 0 if none.
@@ -43,18 +51,26 @@ pub enum FlagsAnswer {
     Refused(u8),
 }
 
+// In place of a pin: the step is no walk.
+pub const NO_WALK: u8 = 255;
+
+// Where a walk leads: the half and the pin; of any other step the half as it came, and NO_WALK.
+pub struct Walked {
+    pub volatile: Volatile,
+    pub pin: u8,
+}
+
 // The steps of a sound card, up to the first that is refused.
 fn drive(image: &mut [u8], fuses: u8, v: Volatile, steps: &[u8], answers: &mut [u8]) -> Ran
-    requires sound { ⌜ stateNumber (now image) fuses v ≡ 0 ⌝ }
-    requires room { ⌜ length (now steps) ≤ length (now answers) ⌝ }
-    ensures { λ r. ⌜ Runs (now (image .entry)) fuses v (now (steps .entry)) (now (answers .entry)) r (now (image .exit)) (now (answers .exit)) ⌝ }
+    requires { ⌜ givenRunRefusal (given (now image) fuses v) (length (now steps)) (length (now answers)) ≡ 0 ⌝ }
+    ensures { λ r. ⌜ RunAnswered (given (now (image .entry)) fuses v) (now (steps .entry)) (now (answers .entry)) r (now (image .exit)) (now (answers .exit)) ⌝ }
 {
     let mut f = fuses;
     let mut s = v;
     let mut p = v.pin(image, fuses);
     let mut i = 0;
     while i < steps.len() {
-        let m = by_line::moves(s, image, f, p, steps[i] as u32);
+        let m = inner_step::step(s, image, f, p, steps[i] as u32);
         if m.refusal != 0 {
             return Ran {
                 fuses: f,
@@ -79,62 +95,101 @@ fn drive(image: &mut [u8], fuses: u8, v: Volatile, steps: &[u8], answers: &mut [
 
 // A run over a list of steps, with one answer byte for each that is accepted.
 pub fn run(image: &mut [u8], fuses: u8, v: Volatile, steps: &[u8], answers: &mut [u8]) -> Ran
-    ensures { λ r. ⌜ RunAnswered (now (image .entry)) fuses v (now (steps .entry)) (now (answers .entry)) r (now (image .exit)) (now (answers .exit)) ⌝ }
+    ensures { λ r. ⌜ RunAnswered (given (now (image .entry)) fuses v) (now (steps .entry)) (now (answers .entry)) r (now (image .exit)) (now (answers .exit)) ⌝ }
 {
-    let number = refusals::run_number(image, fuses, v, steps.len(), answers.len());
-    if number != 0 {
+    let refusal = refusals::run_refusal(image, fuses, v, steps.len(), answers.len());
+    if refusal != 0 {
         return Ran {
             fuses: fuses,
             volatile: v,
             done: 0,
-            refusal: number,
+            refusal: refusal,
         };
     }
     drive(image, fuses, v, steps, answers)
 }
 
 // One step of a sound card, as a run of one.
-fn step_by_run(image: &mut [u8], fuses: u8, v: Volatile, n: u8) -> Stepped
-    requires { ⌜ stateNumber (now image) fuses v ≡ 0 ⌝ }
-    ensures { λ r. ⌜ StepAnswered (now (image .entry)) fuses v n r (now (image .exit)) ⌝ }
+fn step_by_run(image: &mut [u8], fuses: u8, v: Volatile, n: u8) -> Told
+    requires { ⌜ givenRefusal (given (now image) fuses v) ≡ 0 ⌝ }
+    ensures { λ r. ⌜ StepTold (given (now (image .entry)) fuses v) n r (now (image .exit)) ⌝ }
 {
     let one = [n];
     let mut told = [1u8];
     let ran = drive(image, fuses, v, &one, &mut told);
     let after = ran.volatile;
-    if ran.refusal != 0 {
-        return Stepped {
-            fuses: ran.fuses,
-            volatile: after,
-            answer: Answer::Refused(ran.refusal),
-        };
-    }
-    Stepped {
+    Told {
         fuses: ran.fuses,
         volatile: after,
-        answer: Answer::Pin(told[0]),
+        pin: told[0],
+        refusal: ran.refusal,
+    }
+}
+
+// One step where it walks, as most do: CLK on a card that is read. Any other is left to the calls below.
+pub fn walk_step(image: &[u8], fuses: u8, v: Volatile, n: u8) -> Walked
+    ensures { λ r. ⌜ r ≡ walkOf (given (now (image .entry)) fuses v) n ⌝ }
+{
+    let levels = n as u32;
+    if levels & walk::STILL != 1 {
+        return walk::none(v);
+    }
+    if !walk::is_calm(v, levels) {
+        return walk::none(v);
+    }
+    if 1519 <= v.address {
+        return walk::none(v);
+    }
+    if image.len() != 174 {
+        return walk::none(v);
+    }
+    if 7 < fuses {
+        return walk::none(v);
+    }
+    walk::comes_to(v, image, fuses, levels)
+}
+
+// One step, its answer in plain numbers.
+pub fn step_told(image: &mut [u8], fuses: u8, v: Volatile, n: u8) -> Told
+    ensures { λ r. ⌜ StepTold (given (now (image .entry)) fuses v) n r (now (image .exit)) ⌝ }
+{
+    let refusal = refusals::quick_state_refusal(image, fuses, v);
+    if refusal != 0 {
+        return Told {
+            fuses: fuses,
+            volatile: v,
+            pin: 1,
+            refusal: refusal,
+        };
+    }
+    match quick::step(v, n as u32) {
+        Quick::To(next) => Told {
+            fuses: fuses,
+            volatile: next,
+            pin: next.pin(image, fuses),
+            refusal: 0,
+        },
+        Quick::Other => step_by_run(image, fuses, v, n),
     }
 }
 
 // One step.
 pub fn step(image: &mut [u8], fuses: u8, v: Volatile, n: u8) -> Stepped
-    ensures { λ r. ⌜ StepAnswered (now (image .entry)) fuses v n r (now (image .exit)) ⌝ }
+    ensures { λ r. ⌜ StepAnswered (given (now (image .entry)) fuses v) n r (now (image .exit)) ⌝ }
 {
-    let number = refusals::quick_state_number(image, fuses, v);
-    if number != 0 {
+    let told = step_told(image, fuses, v, n);
+    let after = told.volatile;
+    if told.refusal != 0 {
         return Stepped {
-            fuses: fuses,
-            volatile: v,
-            answer: Answer::Refused(number),
+            fuses: told.fuses,
+            volatile: after,
+            answer: Answer::Refused(told.refusal),
         };
     }
-    match quick::step(v, n as u32) {
-        Quick::To(next) => Stepped {
-            fuses: fuses,
-            volatile: next,
-            answer: Answer::Pin(next.pin(image, fuses)),
-        },
-        Quick::Other => step_by_run(image, fuses, v, n),
+    Stepped {
+        fuses: told.fuses,
+        volatile: after,
+        answer: Answer::Pin(told.pin),
     }
 }
 

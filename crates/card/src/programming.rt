@@ -1,13 +1,17 @@
-// CLK falls in programming: the operation takes effect.
-use crate::handed;
-use crate::handed::Moved;
+// CLK falls while programming is under way: the operation takes effect.
+use crate::moved;
+use crate::moved::Left;
 use memory::is_set;
 use rules::Operation;
 use volatile::Volatile;
 ghost use mathlib.Core.Path.{_≡_};
+ghost use mathlib.Core.Bool.{true};
 ghost use Prim.Native.Nat.{_≤_};
+ghost use lib.Bits.{bitXor};
+ghost use Rattle.memory.specs.Image.{digit};
 ghost use Rattle.rules.specs.Programming.{memoryAfter};
-ghost use Rattle.card.specs.Moves.{doneBy, moved, movedTo, programmedCard};
+ghost use Rattle.volatile.specs.Packed.{given};
+ghost use Rattle.card.specs.Moves.{doneBy, programmedCard, Ready, Leaves, leftAs};
 
 // What an operation leaves beside the image: the fuses, and whether it was a write that turned a 1 into 0.
 pub(crate) struct Done {
@@ -43,15 +47,28 @@ pub(crate) fn carry_out(op: Operation, image: &mut [u8], fuses: u8, a: u32) -> D
     }
 }
 
-// CLK falls in programming.
-pub(crate) fn clock_programs(v: Volatile, image: &mut [u8], fuses: u8, n: u32) -> Moved
+// CLK falls with PGM low.
+pub(crate) fn clock_falls(v: Volatile, image: &mut [u8], fuses: u8, n: u32) -> Left
     requires { ⌜ fuses ≤ 7 ⌝ }
-    ensures moved { λ r. ⌜ r ≡ movedTo (programmedCard (now (image .entry)) fuses v n) ⌝ }
-    ensures memory { λ r. ⌜ now (image .exit) ≡ programmedCard (now (image .entry)) fuses v n .memory ⌝ }
+    ensures left { λ r. ⌜ r ≡ leftAs (programmedCard (given (now (image .entry)) fuses v) n) ⌝ }
+    ensures memory { λ r. ⌜ now (image .exit) ≡ programmedCard (given (now (image .entry)) fuses v) n .memory ⌝ }
 {
     let l1 = v.level1(fuses);
     let ec_en = is_set(fuses as u32, volatile::EC_EN);
     let done = carry_out(v.operation(fuses), image, fuses, v.address);
     let after = v.programmed(n, l1, ec_en, done.turned);
-    handed::accepted(after, image, done.fuses)
+    moved::with_fuses(moved::read(after, image, done.fuses), done.fuses)
+}
+
+// CLK falls.
+pub(crate) fn clock(v: Volatile, image: &mut [u8], fuses: u8, pin: u8, n: u32) -> Left
+    requires ready { ⌜ Ready (given (now image) fuses v) pin ⌝ }
+    requires programming { ⌜ digit 3 (v .flags) ≡ true ⌝ }
+    requires line { ⌜ bitXor (v .lines) n ≡ 4 ⌝ }
+    ensures { λ r. ⌜ Leaves (given (now (image .entry)) fuses v) pin n r (now (image .exit)) ⌝ }
+{
+    if is_set(n, volatile::PGM) {
+        return moved::with_fuses(moved::refused(v, pin, 4), fuses);
+    }
+    clock_falls(v, image, fuses, n)
 }

@@ -1,11 +1,18 @@
-// The result of most steps, which a single step tells without the loop of a run.
+// The result of most steps that are no walk, which a single step tells without the loop of a run.
 use memory::is_set;
 use volatile::Volatile;
 ghost use mathlib.Core.Path.{_≡_};
 ghost use mathlib.Core.Bool.{true, false};
-ghost use lib.Bits.{bitXor};
+ghost use lib.Bits.{bitXor, bitAnd};
 ghost use Rattle.memory.specs.Image.{digit};
-ghost use Rattle.card.specs.Moves.{Plain, QuickTo};
+ghost use Rattle.card.specs.Moves.{QuickTo};
+
+// Masks of lines.
+const VCC_RST: u32 = 3;
+
+const VCC_CLK: u32 = 5;
+
+const VCC_CLK_PGM: u32 = 13;
 
 // The half after the step. Any other step is left to the run.
 pub(crate) enum Quick {
@@ -13,50 +20,26 @@ pub(crate) enum Quick {
     Other,
 }
 
-// Whether a move from a compares nothing and arrives where nothing comes of it.
-pub(crate) fn is_plain(a: u32) -> bool
-    ensures { λ r. ⌜ (r ≡ true → Plain a) ⌝ }
-{
-    if a < 177 {
-        if a < 79 {
-            return true;
-        }
-        return (104 <= a) & (a < 175);
-    }
-    if a < 1198 {
-        return true;
-    }
-    if a < 1360 {
-        return (1232 <= a) & (a < 1359);
-    }
-    a < 1519
-}
-
-// CLK rises, or falls where nothing is compared and nothing comes of the arrival.
+// CLK rises, or falls where it does not count.
 pub(crate) fn clock(v: Volatile, n: u32) -> Quick
     requires { ⌜ bitXor (v .lines) n ≡ 4 ⌝ }
     ensures { λ r. ⌜ QuickTo v n r ⌝ }
 {
-    if !is_set(v.lines, volatile::VCC) {
+    if !is_set(n, volatile::VCC) {
         return Quick::To(v.follows(n));
     }
-    if !is_set(v.lines, volatile::CLK) {
+    if is_set(n, volatile::CLK) {
         return Quick::To(v.clock_rises(n));
     }
-    if is_set(v.lines, volatile::RST) | is_set(v.flags, volatile::PROGRAMMING) {
-        return Quick::Other;
-    }
-    let a = v.address;
-    if is_plain(a) {
-        return Quick::To(v.goes_on(n, a + 1));
+    if is_set(n, volatile::RST) & !is_set(v.flags, volatile::PROGRAMMING) {
+        return Quick::To(v.unlatched(n, is_set(v.flags, volatile::MATCH)));
     }
     Quick::Other
 }
 
 // FUS or RST with VCC on and CLK low, where neither is refused.
 pub(crate) fn idle(v: Volatile, n: u32) -> Quick
-    requires vcc { ⌜ digit 0 (v .lines) ≡ true ⌝ }
-    requires clk { ⌜ digit 2 (v .lines) ≡ false ⌝ }
+    requires { ⌜ bitAnd n 5 ≡ 1 ⌝ }
     ensures { λ r. ⌜ QuickTo v n r ⌝ }
 {
     let d = v.lines ^ n;
@@ -64,7 +47,7 @@ pub(crate) fn idle(v: Volatile, n: u32) -> Quick
         return Quick::To(v.follows(n));
     }
     if d == 2 {
-        if is_set(v.lines, volatile::RST) {
+        if n & VCC_RST == 1 {
             return Quick::To(v.reset_falls(n));
         }
         return Quick::To(v.follows(n));
@@ -77,17 +60,16 @@ pub(crate) fn step(v: Volatile, n: u32) -> Quick
     ensures { λ r. ⌜ QuickTo v n r ⌝ }
 {
     let d = v.lines ^ n;
-    let clk = is_set(v.lines, volatile::CLK);
     if d == 4 {
         return clock(v, n);
     }
     if d == 16 {
         return Quick::To(v.follows(n));
     }
-    if (d == 8) & !(clk & !is_set(v.lines, volatile::PGM)) {
+    if (d == 8) & (n & VCC_CLK_PGM != VCC_CLK_PGM) {
         return Quick::To(v.follows(n));
     }
-    if is_set(v.lines, volatile::VCC) & !clk {
+    if n & VCC_CLK == 1 {
         return idle(v, n);
     }
     Quick::Other

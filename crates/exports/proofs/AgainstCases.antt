@@ -3,32 +3,33 @@ use mathlib.Core.Path.{refl}
 use Rattle.rules.specs.Maker.{reset, walk, walkRefusal}
 use Rattle.rules.specs.CaseForms.{sample, cardFile, session}
 use Rattle.rules.specs.Computing.{the-card}
-use Rattle.card.specs.Contracts.{stepAnswer, stepMemory, runAnswer, runMemory, runAnswers, flagsOf}
+use Rattle.rules.specs.Card.{refusalIn, pinIn}
+use Rattle.card.specs.Contracts.{stepLeaves, stepAnswer, runLeaves, runAnswers, runRefused, flagsOf}
 use Rattle.maker.specs.Act.{made, inBuffer}
 use Rattle.file.specs.Opening.{cardNumber, sessionNumber, cardAnswer, sessionAnswer, inMemory, handedSteps}
-use Rattle.exports.specs.Rendered.{steppedOf, toldOf, ranOf, flagBytes, madeOf, cardFileOf, sessionOf}
+use Rattle.exports.specs.Rendered.{flagBytes, madeOf, cardFileOf, sessionOf}
 use Rattle.exports.specs.Cases.{Steps-told, Runs-told, Flags-told, Acts-told, Files-told}
 
 pub steps-told : Steps-told
-unfolding the-card sample stepAnswer stepMemory steppedOf toldOf
+unfolding the-card sample stepLeaves stepAnswer refusalIn pinIn
 steps-told = (
-  record { answer = refl; memory = refl },
-  record { answer = refl; memory = refl },
-  record { answer = refl; memory = refl },
-  record { answer = refl; memory = refl },
-  record { answer = refl; memory = refl },
-  record { answer = refl; memory = refl },
-  record { answer = refl; lent = refl; memory = refl },
-  record { answer = refl; lent = refl; memory = refl },
-  record { answer = refl; lent = refl; memory = refl },
+  record { card = refl; answer = refl; refusal = refl },
+  record { card = refl; answer = refl; refusal = refl },
+  record { card = refl; answer = refl; refusal = refl },
+  record { card = refl; answer = refl; refusal = refl },
+  record { card = refl; answer = refl; refusal = refl },
+  record { card = refl; answer = refl; refusal = refl },
+  record { card = refl; answer = refl; refusal = refl },
+  record { card = refl; answer = refl; refusal = refl },
+  record { card = refl; answer = refl; refusal = refl },
 )
 
 pub runs-told : Runs-told
-unfolding the-card sample runAnswer runMemory runAnswers ranOf
+unfolding the-card sample runLeaves runAnswers runRefused
 runs-told = (
-  record { answer = refl; memory = refl; pins = refl },
-  record { answer = refl; memory = refl; pins = refl },
-  record { answer = refl; memory = refl; pins = refl },
+  record { card = refl; done = refl; refusal = refl; pins = refl },
+  record { card = refl; done = refl; refusal = refl; pins = refl },
+  record { card = refl; done = refl; refusal = refl; pins = refl },
 )
 
 pub flags-told : Flags-told

@@ -6,10 +6,7 @@ use mathlib.Core.List.{List, []}
 use lib.Dec.{eqb}
 use lib.ListN.{length, take, drop}
 use mir.Val.{boolByte}
-use Rattle.rules.specs.declared.Answer.the-variants.{Pin, Refused}
-use Rattle.rules.specs.Card.{numberOf, pinOf}
 use Rattle.volatile.specs.Packed.{one}
-use Rattle.card.specs.declared.Stepped.{Stepped}
 use Rattle.maker.specs.declared.Made.{Made}
 use Rattle.maker.specs.Act.{inBuffer, Acted}
 use Rattle.rules.specs.File.{fuseSection, stepCount, stepSection, sessionRefusal}
@@ -20,16 +17,8 @@ use Rattle.file.specs.Opening.{cardNumber, sessionNumber, sessionSteps, session
 use Rattle.exports.specs.declared.acts.ZhavMade.{ZhavMade}
 use Rattle.exports.specs.declared.openers.ZhavCard.{ZhavCard}
 use Rattle.exports.specs.declared.openers.ZhavSession.{ZhavSession}
-use Rattle.exports.specs.Rendered.{steppedOf, madeOf, cardFileOf, stepsFrom, sessionOf}
+use Rattle.exports.specs.Rendered.{madeOf, cardFileOf, stepsFrom, sessionOf}
 use Rattle.exports.specs.Told.{ActTold, CardTold, SessionTold}
-
-pub pinned : {s t : Stepped} {b : ℕ} → s ≡ t → s .answer ≡ Pin b → record { half = s .volatile; fuses = s .fuses; answer = b; refusal = 0 } ≡ steppedOf t
-unfolding steppedOf pinOf numberOf
-pinned is told = rw (← is, told)
-
-pub refused : {s t : Stepped} {k : ℕ} → s ≡ t → s .answer ≡ Refused k → record { half = s .volatile; fuses = s .fuses; answer = 1; refusal = k } ≡ steppedOf t
-unfolding steppedOf pinOf numberOf
-refused is told = rw (← is, told)
 
 -- A flag cast to a byte.
 pub as-byte : (b : Bool) → boolByte b ≡ one b

@@ -9,6 +9,7 @@ use mathlib.Core.List.{List, [], _∷_, _++_}
 use lib.ListN.{take, replicate, set}
 use Rattle.rules.specs.Maker.{reset, walk, walkRefusal}
 use Rattle.rules.specs.CaseForms.{zero, one, released, no-answer, L1, L2, sample, cardFile, session}
+use Rattle.volatile.specs.Packed.{given}
 use Rattle.volatile.specs.Cases.{Gives, half}
 use Rattle.card.specs.Contracts.{flagsOf}
 use Rattle.exports.specs.Rendered.{flagBytes, isHigh}
@@ -17,32 +18,32 @@ use Rattle.exports.specs.Told.{StepTold, StepToldAt, RunTold, ActTold, C
 abbrev pub Steps-told : Type 0
 Steps-told =
     -- CLK rises at 0 and at 1, bit 96 is written while match holds, ISS is blown.
-    StepTold sample 5 (half 17 0 0) 21 (record { half = half 21 0 16; fuses = 5; answer = zero; refusal = 0 }) sample ×
-    StepTold sample 5 (half 17 1 0) 21 (record { half = half 21 1 16; fuses = 5; answer = one; refusal = 0 }) sample ×
-    StepTold sample 5 (half 21 96 72) 17 (record { half = half 17 96 65; fuses = 5; answer = zero; refusal = 0 }) (set sample 12 127) ×
-    StepTold sample 7 (half 23 1504 9) 19 (record { half = half 19 1504 1; fuses = 3; answer = released; refusal = 0 }) sample ×
+    StepTold (given sample 5 (half 17 0 0)) 21 (record { half = half 21 0 16; fuses = 5; answer = zero; refusal = 0 }) sample ×
+    StepTold (given sample 5 (half 17 1 0)) 21 (record { half = half 21 1 16; fuses = 5; answer = one; refusal = 0 }) sample ×
+    StepTold (given sample 5 (half 21 96 72)) 17 (record { half = half 17 96 65; fuses = 5; answer = zero; refusal = 0 }) (set sample 12 127) ×
+    StepTold (given sample 7 (half 23 1504 9)) 19 (record { half = half 19 1504 1; fuses = 3; answer = released; refusal = 0 }) sample ×
     -- 2 and 9: both halves as they came.
-    StepTold sample 5 (half 17 0 0) 22 (record { half = half 17 0 0; fuses = 5; answer = no-answer; refusal = 2 }) sample ×
-    StepTold sample 5 (half 21 96 200) 17 (record { half = half 21 96 200; fuses = 5; answer = no-answer; refusal = 9 }) sample ×
+    StepTold (given sample 5 (half 17 0 0)) 22 (record { half = half 17 0 0; fuses = 5; answer = no-answer; refusal = 2 }) sample ×
+    StepTold (given sample 5 (half 21 96 200)) 17 (record { half = half 21 96 200; fuses = 5; answer = no-answer; refusal = 9 }) sample ×
     -- On a half that is lent: the same write, the same blow, 2.
-    StepToldAt sample 5 (half 21 96 72) 17 (record { fuses = 5; answer = zero; refusal = 0 }) (half 17 96 65) (set sample 12 127) ×
-    StepToldAt sample 7 (half 23 1504 9) 19 (record { fuses = 3; answer = released; refusal = 0 }) (half 19 1504 1) sample ×
-    StepToldAt sample 5 (half 17 0 0) 22 (record { fuses = 5; answer = no-answer; refusal = 2 }) (half 17 0 0) sample
+    StepToldAt (given sample 5 (half 21 96 72)) 17 (record { fuses = 5; answer = zero; refusal = 0 }) (half 17 96 65) (set sample 12 127) ×
+    StepToldAt (given sample 7 (half 23 1504 9)) 19 (record { fuses = 3; answer = released; refusal = 0 }) (half 19 1504 1) sample ×
+    StepToldAt (given sample 5 (half 17 0 0)) 22 (record { fuses = 5; answer = no-answer; refusal = 2 }) (half 17 0 0) sample
 
 abbrev pub Runs-told : Type 0
 Runs-told =
     -- ISS is blown and RST falls; the third answer keeps its byte.
-    RunTold sample 7 (half 23 1504 9) (19 ∷ 17 ∷ []) (70 ∷ 71 ∷ 72 ∷ [])
+    RunTold (given sample 7 (half 23 1504 9)) (19 ∷ 17 ∷ []) (70 ∷ 71 ∷ 72 ∷ [])
     (record { half = half 17 0 1; done = 2; fuses = 3; refusal = 0 })
     sample
     (released ∷ zero ∷ 72 ∷ []) ×
     -- Bit 96 is written while match holds; the fourth step is refused by 2.
-    RunTold sample 5 (half 13 96 72) (5 ∷ 21 ∷ 17 ∷ 22 ∷ []) (70 ∷ 71 ∷ 72 ∷ 73 ∷ [])
+    RunTold (given sample 5 (half 13 96 72)) (5 ∷ 21 ∷ 17 ∷ 22 ∷ []) (70 ∷ 71 ∷ 72 ∷ 73 ∷ [])
     (record { half = half 17 96 65; done = 3; fuses = 5; refusal = 2 })
     (set sample 12 127)
     (released ∷ released ∷ zero ∷ 73 ∷ []) ×
     -- 19: "count 0", all as it came.
-    RunTold sample 5 (half 21 96 72) (17 ∷ 17 ∷ []) (70 ∷ [])
+    RunTold (given sample 5 (half 21 96 72)) (17 ∷ 17 ∷ []) (70 ∷ [])
     (record { half = half 21 96 72; done = 0; fuses = 5; refusal = 19 })
     sample
     (70 ∷ [])

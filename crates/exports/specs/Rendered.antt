@@ -2,46 +2,26 @@
 use Prim.Native.Nat.{ℕ}
 use mathlib.Core.Bool.{Bool, not}
 use lib.Dec.{eqb}
-use Rattle.rules.specs.Card.{numberOf, pinOf}
 use Rattle.volatile.specs.Packed.{one}
-use Rattle.card.specs.declared.Stepped.{Stepped}
-use Rattle.card.specs.declared.Ran.{Ran}
 use Rattle.card.specs.declared.FlagsAnswer.{FlagsAnswer}
-use Rattle.card.specs.Contracts.{flagsNumber, flagsHeld}
+use Rattle.card.specs.Contracts.{flagsRefused, flagsHeld}
 use Rattle.maker.specs.declared.Made.{Made}
 use Rattle.maker.specs.Act.{numberOf as actNumber, countOf}
 use Rattle.file.specs.declared.CardFile.{CardFile}
 use Rattle.file.specs.declared.Session.{Session}
 use Rattle.file.specs.declared.Session.the-variants as session
 use Rattle.file.specs.Opening.{cardNumber, cardFuses, sessionNumber, sessionFuses, sessionSteps}
-use Rattle.exports.specs.declared.steps.ZhavStepped.{ZhavStepped}
-use Rattle.exports.specs.declared.steps.ZhavTold.{ZhavTold}
-use Rattle.exports.specs.declared.steps.ZhavRan.{ZhavRan}
 use Rattle.exports.specs.declared.steps.ZhavFlags.{ZhavFlags}
 use Rattle.exports.specs.declared.acts.ZhavMade.{ZhavMade}
 use Rattle.exports.specs.declared.openers.ZhavCard.{ZhavCard}
 use Rattle.exports.specs.declared.openers.ZhavSession.{ZhavSession}
 
--- A step: the pin's answer, 1 where refused, and the refusal, 0 if none.
-unfoldable pub steppedOf : Stepped → ZhavStepped
-unfolding numberOf pinOf
-steppedOf s = record { half = s .volatile; fuses = s .fuses; answer = pinOf (s .answer); refusal = numberOf (s .answer) }
-
--- A step on a half that is lent: all but the half.
-unfoldable pub toldOf : Stepped → ZhavTold
-unfolding numberOf pinOf
-toldOf s = record { fuses = s .fuses; answer = pinOf (s .answer); refusal = numberOf (s .answer) }
-
--- A run.
-unfoldable pub ranOf : Ran → ZhavRan
-ranOf r = record { half = r .volatile; done = r .done; fuses = r .fuses; refusal = r .refusal }
-
 -- The flags, 1 for one that holds, and none where refused.
 unfoldable pub flagBytes : FlagsAnswer → ZhavFlags
-unfolding flagsHeld flagsNumber
+unfolding flagsHeld flagsRefused
 flagBytes a =
     let held = flagsHeld a in
-    record { sv = one (held .0); p1 = one (held .1 .0); r1 = one (held .1 .1 .0); e1 = one (held .1 .1 .1); refusal = flagsNumber a }
+    record { sv = one (held .0); p1 = one (held .1 .0); r1 = one (held .1 .1 .0); e1 = one (held .1 .1 .1); refusal = flagsRefused a }
 
 -- A level as a byte: 0 low, anything else high.
 abbrev pub isHigh : ℕ → Bool

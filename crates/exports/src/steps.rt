@@ -2,12 +2,11 @@
 ghost use mathlib.Core.Path.{_≡_};
 ghost use Rattle.rules.specs.Halves.{fresh};
 ghost use Rattle.rules.specs.Card.{triesLeft};
-ghost use Rattle.volatile.specs.Packed.{packed};
+ghost use Rattle.volatile.specs.Packed.{packed, given};
 ghost use Rattle.card.specs.Contracts.{flagsOf};
 ghost use Rattle.exports.specs.Rendered.{flagBytes};
 ghost use Rattle.exports.specs.Told.{StepTold, StepToldAt, RunTold};
 use card::FlagsAnswer;
-use rules::Answer;
 use volatile::Volatile;
 
 // The result of a step: both halves, the pin's answer, 1 where refused, and the refusal, 0 if none.
@@ -54,34 +53,35 @@ pub extern "C" fn zhav_fresh() -> Volatile
     Volatile::fresh()
 }
 
-// One step.
+// One step. A walk is told at once.
 #[no_mangle]
 pub extern "C" fn zhav_step(image: &mut [u8], fuses: u8, v: Volatile, n: u8) -> ZhavStepped
-    ensures { λ r. ⌜ StepTold (now (image .entry)) fuses v n r (now (image .exit)) ⌝ }
+    ensures { λ r. ⌜ StepTold (given (now (image .entry)) fuses v) n r (now (image .exit)) ⌝ }
 {
-    let s = card::step(image, fuses, v, n);
-    let half = s.volatile;
-    let told = s.answer;
-    match told {
-        Answer::Pin(pin) => ZhavStepped {
-            half: half,
-            fuses: s.fuses,
-            answer: pin,
+    let w = card::walk_step(image, fuses, v, n);
+    if w.pin != card::NO_WALK {
+        let next = w.volatile;
+        return ZhavStepped {
+            half: next,
+            fuses: fuses,
+            answer: w.pin,
             refusal: 0,
-        },
-        Answer::Refused(refusal) => ZhavStepped {
-            half: half,
-            fuses: s.fuses,
-            answer: 1,
-            refusal: refusal,
-        },
+        };
+    }
+    let s = card::step_told(image, fuses, v, n);
+    let next = s.volatile;
+    ZhavStepped {
+        half: next,
+        fuses: s.fuses,
+        answer: s.pin,
+        refusal: s.refusal,
     }
 }
 
 // One step on a volatile half that is lent: what stands there afterwards is the half that the step hands back.
 #[no_mangle]
 pub extern "C" fn zhav_step_at(image: &mut [u8], fuses: u8, v: &mut Volatile, n: u8) -> ZhavTold
-    ensures { λ r. ⌜ StepToldAt (now (image .entry)) fuses (now (v .entry)) n r (now (v .exit)) (now (image .exit)) ⌝ }
+    ensures { λ r. ⌜ StepToldAt (given (now (image .entry)) fuses (now (v .entry))) n r (now (v .exit)) (now (image .exit)) ⌝ }
 {
     let s = zhav_step(image, fuses, *v, n);
     *v = s.half;
@@ -101,7 +101,7 @@ pub extern "C" fn zhav_run(
     steps: &[u8],
     answers: &mut [u8],
 ) -> ZhavRan
-    ensures { λ r. ⌜ RunTold (now (image .entry)) fuses v (now (steps .entry)) (now (answers .entry)) r (now (image .exit)) (now (answers .exit)) ⌝ }
+    ensures { λ r. ⌜ RunTold (given (now (image .entry)) fuses v) (now (steps .entry)) (now (answers .entry)) r (now (image .exit)) (now (answers .exit)) ⌝ }
 {
     let ran = card::run(image, fuses, v, steps, answers);
     let half = ran.volatile;

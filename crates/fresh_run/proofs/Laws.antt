@@ -1,24 +1,19 @@
 -- What `card::run` answers from a fresh half, in terms of the card's own run, and how long the text can be.
 use Prim.Native.Nat.{ℕ, _≤_, _<_, _^_}
 use native.Mathlib.Omega.{arith}
-use mathlib.Core.Path.{_≡_, refl, sym, ap, _∙_}
-use mathlib.Core.Bool.{Bool, true, false, cond}
+use mathlib.Core.Path.{_≡_, refl, ap, _∙_}
 use mathlib.Core.List.{List}
-use lib.Dec.{eqb}
 use lib.ListN.{length, take}
 use lib.Seq.{take-at, take-length}
 use Rattle.memory.specs.Image.{digit}
 use Rattle.rules.specs.Halves.{fresh, off}
-use Rattle.rules.specs.Lines.{place, high}
-use Rattle.rules.specs.Zones.{between}
-use Rattle.rules.specs.Refusals.{longest, anySet, madeUp, stateRefusal, runRefusal}
-use Rattle.rules.specs.Card.{checkedRun, run, ended, answersIn, triesLeft}
-use Rattle.rules.specs.Card as Rules
+use Rattle.rules.specs.Refusals.{longest}
+use Rattle.rules.specs.Card.{answersIn, triesLeft}
 use Rattle.rules.specs.Demands.{freshCard}
-use Rattle.volatile.specs.Packed.{packed, unpacked, word, cardOf, madeUpWord}
+use Rattle.volatile.specs.Packed.{packed, unpacked, word, Given, given, cardOf}
 use Rattle.card.specs.declared.Ran.{Ran}
-use Rattle.refusals.specs.Numbers.{stateNumber, runNumber}
-use Rattle.card.specs.Contracts.{ranOn, runAnswer, runMemory, runAnswers, RunAnswered}
+use Rattle.card.specs.Contracts.{runAnswers, RunAnswered}
+use Rattle.card.proofs.AsDefined.{run-leaves-as-checked, run-answers-as-checked, run-refused-as-checked}
 use Rattle.report.specs.Lines.{fourLines}
 use Rattle.report.specs.Session.{reported}
 use Rattle.report.proofs.Digits.{at-most-twenty}
@@ -26,17 +21,16 @@ use Rattle.report.proofs.Lengths.{length-lines}
 use Rattle.fresh_run.specs.FreshRun.{freshRun, runText, enough}
 
 module _ (m : List ℕ) (fuses : ℕ) (steps answers : List ℕ) where
-  abbrev number : ℕ
-  number = runNumber m fuses (packed fresh) (length steps) (length answers)
+  abbrev start : Given
+  start = given m fuses (packed fresh)
 
-  -- A fresh half is not made up.
-  sound : stateRefusal m fuses fresh ≡ stateNumber m fuses (packed fresh)
-  unfolding stateRefusal stateNumber madeUpWord madeUp anySet packed unpacked word fresh off digit high place between
-  sound = refl
+  fresh-card : cardOf start ≡ freshCard m fuses
+  unfolding packed unpacked word fresh off digit
+  fresh-card = refl
 
-  same-number : runRefusal m fuses fresh (length steps) (length answers) ≡ number
-  unfolding runRefusal runNumber
-  same-number = rw sound
+  few-flags : packed fresh .flags ≤ 127
+  unfolding packed word fresh off
+  few-flags = omega arith
 
   -- What the fields of the answer say of the run.
   pub record FromFresh (r : Ran) (after pins : List ℕ) : Type 0 where
@@ -45,41 +39,20 @@ module _ (m : List ℕ) (fuses : ℕ) (steps answers : List ℕ) where
     pub memory : after ≡ freshRun m fuses steps .card .memory
     pub shown : take (r .done) pins ≡ freshRun m fuses steps .answers
 
-  abbrev whole : Rules.Ran
-  whole = run (freshCard m fuses) steps
-
-  fresh-card : cardOf m fuses (packed fresh) ≡ freshCard m fuses
-  unfolding packed unpacked word fresh off digit
-  fresh-card = refl
-
-  whole-run : ranOn m fuses (packed fresh) steps ≡ whole
-  unfolding ranOn
-  whole-run = rw fresh-card
-
-  module _ (room : length answers ≡ longest) {r : Ran} {after pins : List ℕ} (a : RunAnswered m fuses (packed fresh) steps answers r after pins) where
-    ran : (t : Bool) → eqb number 0 ≡ t → freshRun m fuses steps ≡ cond t whole (ended (freshCard m fuses) number)
-    unfolding freshRun checkedRun
-    ran t q = ap (λ (k : ℕ). cond (eqb k 0) whole (ended (freshCard m fuses) k)) (ap (λ (n : ℕ). runRefusal m fuses fresh (length steps) n) (sym room) ∙ same-number) ∙ rw q
-
-    by-test : (t : Bool) → eqb number 0 ≡ t → FromFresh r after pins
-    unfolding runAnswer runMemory runAnswers answersIn
-    by-test true q =
-        record {
-          done = rw (a .answer, q, whole-run, ran true q);
-          refusal = rw (a .answer, q, whole-run, ran true q);
-          memory = rw (a .memory, q, whole-run, ran true q);
-          shown = rw (a .answer, a .pins, q, whole-run, ran true q) (take-at (whole .answers) _ _ refl);
-        }
-    by-test false q =
-        record {
-          done = rw (a .answer, q, ran false q);
-          refusal = rw (a .answer, q, ran false q);
-          memory = rw (a .memory, q, ran false q);
-          shown = rw (a .answer, q, ran false q);
-        }
-
-    pub from-fresh : FromFresh r after pins
-    from-fresh = by-test (eqb number 0) refl
+  pub from-fresh :
+      {r : Ran} {after pins : List ℕ} → length answers ≡ longest → RunAnswered start steps answers r after pins → FromFresh r after pins
+  unfolding freshRun answersIn
+  from-fresh {r} {after} {pins} room a =
+      record {
+        done = a .done ∙ ap length told;
+        refusal = a .refusal ∙ (run-refused-as-checked start few-flags steps (length answers) ∙ rw (fresh-card, room));
+        memory =
+            ap (λ (g : Given). g .memory) (a .card ∙ run-leaves-as-checked start few-flags steps (length answers)) ∙ rw (fresh-card, room);
+        shown = rw (a .pins, a .done, told) (take-at (freshRun m fuses steps .answers) _ _ refl);
+      }
+    where
+      told : runAnswers start steps (length answers) ≡ freshRun m fuses steps .answers
+      told = run-answers-as-checked start few-flags steps (length answers) ∙ rw (fresh-card, room)
 
   -- The code's four lines are those of the run.
   pub text-of :

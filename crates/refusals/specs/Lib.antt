@@ -1,2 +1,2 @@
-pub mod Numbers
+pub mod Before
 pub mod Cases

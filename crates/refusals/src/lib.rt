@@ -1,11 +1,12 @@
-// The numbers that a step and a run give before anything else.
+// The refusals that a step and a run give before anything else.
 use volatile::Volatile;
 ghost use mathlib.Core.Path.{_≡_};
-ghost use Rattle.refusals.specs.Numbers.{stateNumber, runNumber};
+ghost use Rattle.volatile.specs.Packed.{given};
+ghost use Rattle.refusals.specs.Before.{givenRefusal, givenRunRefusal};
 
 // 10, 14, 9.
-pub fn state_number(image: &[u8], fuses: u8, v: Volatile) -> u8
-    ensures { λ r. ⌜ r ≡ stateNumber (now (image .entry)) fuses v ⌝ }
+pub fn state_refusal(image: &[u8], fuses: u8, v: Volatile) -> u8
+    ensures { λ r. ⌜ r ≡ givenRefusal (given (now (image .entry)) fuses v) ⌝ }
 {
     if image.len() != 174 {
         return 10;
@@ -20,8 +21,8 @@ pub fn state_number(image: &[u8], fuses: u8, v: Volatile) -> u8
 }
 
 // The same, by a few tests for the state that most steps start from.
-pub fn quick_state_number(image: &[u8], fuses: u8, v: Volatile) -> u8
-    ensures { λ r. ⌜ r ≡ stateNumber (now (image .entry)) fuses v ⌝ }
+pub fn quick_state_refusal(image: &[u8], fuses: u8, v: Volatile) -> u8
+    ensures { λ r. ⌜ r ≡ givenRefusal (given (now (image .entry)) fuses v) ⌝ }
 {
     if image.len() == 174 {
         if fuses <= 7 {
@@ -30,16 +31,16 @@ pub fn quick_state_number(image: &[u8], fuses: u8, v: Volatile) -> u8
             }
         }
     }
-    state_number(image, fuses, v)
+    state_refusal(image, fuses, v)
 }
 
 // 10, 14, 9, 18, 19.
-pub fn run_number(image: &[u8], fuses: u8, v: Volatile, steps: usize, room: usize) -> u8
-    ensures { λ r. ⌜ r ≡ runNumber (now (image .entry)) fuses v steps room ⌝ }
+pub fn run_refusal(image: &[u8], fuses: u8, v: Volatile, steps: usize, room: usize) -> u8
+    ensures { λ r. ⌜ r ≡ givenRunRefusal (given (now (image .entry)) fuses v) steps room ⌝ }
 {
-    let number = state_number(image, fuses, v);
-    if number != 0 {
-        return number;
+    let refusal = state_refusal(image, fuses, v);
+    if refusal != 0 {
+        return refusal;
     }
     if 4096 < steps {
         return 18;

@@ -10,7 +10,7 @@ use Rattle.rules.specs.Halves.{Volatile, Card, off}
 use Rattle.rules.specs.Lines.{VCC, RST, PGM, high}
 use Rattle.rules.specs.Zones.{between, zone}
 use Rattle.rules.specs.Rights.{Held, held, level1}
-use Rattle.rules.specs.Programming.{memoryAfter}
+use Rattle.rules.specs.Programming.{operationNow, memoryAfter}
 use Rattle.rules.specs.Match.{following, arrived}
 use Rattle.rules.specs.Steps.{follows, withVolatile, vccFalls, clkRises, rstFalls, programmed, unlatched, clocked, driven, pin}
 use Rattle.rules.specs.Demands.{hidden, ZonesKept}
@@ -20,10 +20,10 @@ use Rattle.rules.proofs.StepCases.{moved, operationOf}
 use Rattle.rules.proofs.Mild.{readable, mildOperation, readable-seen, mayRead-readable, operation-mild, mild-length, mild-keeps-hidden}
 use Rattle.rules.proofs.Mild.{mild-keeps-equal}
 
--- Of one card with the image m at the start: R1 is 0, and the three zones hold what they held.
-pub record Closed (m : List ℕ) (c : Card) : Type 0 where
+-- Of a card that was s at the start: R1 is 0, and the three zones hold what they held.
+pub record Closed (s c : Card) : Type 0 where
   pub unread : c .volatile .r1 ≡ false
-  pub zones : ZonesKept m c
+  pub zones : ZonesKept s c
 
 -- Of the two: P1, E1 and match may differ, for only SV lets anything of them be seen.
 pub record Alike-cards (c c′ : Card) : Type 0 where
@@ -38,8 +38,8 @@ pub record Alike-cards (c c′ : Card) : Type 0 where
 abbrev pub Unopened-card : Card → Type 0
 Unopened-card c = c .volatile .sv ≡ false
 
-module _ (m : List ℕ) (unreadable : bit m 177 ≡ false) (c : Card) (n : ℕ) (shut : Unopened-card c) (p : Closed m c) where
-  closed-clocked : Closed m (clocked n c)
+module _ (s : Card) (unreadable : bit (s .memory) 177 ≡ false) (c : Card) (n : ℕ) (shut : Unopened-card c) (p : Closed s c) where
+  closed-clocked : Closed s (clocked n c)
   unfolding clocked arrived unlatched hidden between
   closed-clocked =
       record {
@@ -51,15 +51,15 @@ module _ (m : List ℕ) (unreadable : bit m 177 ≡ false) (c : Card) (n : ℕ) 
       go true = refl
       go false = refl
 
-  closed-programmed : Closed m (programmed (operationOf c) n c)
-  unfolding programmed held
+  closed-programmed : Closed s (programmed (operationOf c) n c)
+  unfolding programmed operationNow held
   closed-programmed =
       record {
         unread = p .unread;
         zones = λ a h. mild-keeps-hidden (held (c .fuses) (c .volatile)) _ _ _ _ shut (c .memory) a h ∙ p .zones a h;
       }
 
-  pub closed-moved : (w : Way) → Closed m (moved w n c)
+  pub closed-moved : (w : Way) → Closed s (moved w n c)
   unfolding moved follows clkRises vccFalls off rstFalls unlatched arrived
   closed-moved Keeps = p
   closed-moved Follows = record { unread = p .unread; zones = p .zones }
@@ -76,7 +76,7 @@ operationOf-mild :
     operationOf c ≡
     mildOperation (level1 (held (c .fuses) (c .volatile))) (high RST (c .volatile .lines)) (c .volatile .latch)
     (zone (c .volatile .address))
-unfolding held
+unfolding operationNow held
 operationOf-mild c shut = operation-mild (held (c .fuses) (c .volatile)) _ _ _ _ shut
 
 module _ (c c′ : Card) (shut : Unopened-card c) (shut′ : Unopened-card c′) (p : Alike-cards c c′) where
@@ -85,7 +85,7 @@ module _ (c c′ : Card) (shut : Unopened-card c) (shut′ : Unopened-card c′)
   same-operation = cc (operationOf-mild c shut, operationOf-mild c′ shut′)
 
   alike-programmed : (n : ℕ) → Alike-cards (programmed (operationOf c) n c) (programmed (operationOf c′) n c′)
-  unfolding programmed held
+  unfolding programmed operationNow held
   alike-programmed n =
       record {
         lines = refl;

@@ -16,11 +16,11 @@ use Rattle.rules.proofs.Soundness.{sound-stays-sound}
 
 -- 10, 14 and 9 let the card pass.
 abbrev pub Passes : Card → Type 0
-Passes c = stateRefusal (c .memory) (c .fuses) (c .volatile) ≡ 0
+Passes c = stateRefusal c ≡ 0
 
-pub fresh-passes : (m : List ℕ) (fuses : ℕ) → length m ≡ bytes → fuses ≤ 7 → stateRefusal m fuses fresh ≡ 0
+pub fresh-passes : (c : Card) → length (c .memory) ≡ bytes → c .fuses ≤ 7 → c .volatile ≡ fresh → Passes c
 unfolding the-card
-fresh-passes m fuses sized fused = rw (sized, le-ltb 7 fuses fused)
+fresh-passes c sized fused off = rw (sized, le-ltb 7 (c .fuses) fused, off)
 
 pub passes-on : (c : Card) (n : ℕ) → Passes c → Passes (stepped c n)
 unfolding stepped

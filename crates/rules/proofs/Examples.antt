@@ -45,7 +45,7 @@ abbrev other : List ℕ
 other = image 52 255 0 165
 
 pub record Told-apart-by-opening : Type 0 where
-  pub alike : Alike one other
+  pub alike : Alike (freshCard one 7) (freshCard other 7)
   pub code : Bool·beq (bit one 82) (bit other 82) ≡ false
   pub application : Bool·beq (bit one 176) (bit other 176) ≡ false
   pub key : Bool·beq (bit one 1200) (bit other 1200) ≡ false
@@ -111,7 +111,7 @@ shut-unopened-run : (c : Card) (ns : List ℕ) (room : ℕ) → Passes c → shu
 unfolding UnopenedRun checkedRun
 shut-unopened-run c ns room p e k =
     cond-cases (λ (r : Ran). r .card .volatile .sv ≡ false)
-    (eqb (runRefusal (c .memory) (c .fuses) (c .volatile) (length (take k ns)) room) 0) (λ _. shut-run c ns p e k)
+    (eqb (runRefusal c (length (take k ns)) room) 0) (λ _. shut-run c ns p e k)
     (λ _. shut-run c ns p e 0)
 
 -- Neither card opens before the last step.
@@ -135,7 +135,13 @@ pub told-apart-by-opening : Told-apart-by-opening
 unfolding the-card open-card after
 told-apart-by-opening =
     record {
-      alike = record { sized = refl; sized′ = refl; outside = outside; unreadable = refl; unreadable′ = refl };
+      alike =
+          record {
+            concealed = record { sized = refl; fused = omega arith; off = refl; unreadable = refl };
+            concealed′ = record { sized = refl; fused = omega arith; off = refl; unreadable = refl };
+            fuses = refl;
+            outside = outside;
+          };
       code = refl;
       application = refl;
       key = refl;

@@ -9,11 +9,11 @@ use lib.ListN.{length, take, length-take}
 use borrow.Author.Tests.{eqb-true, ltb-false, le-ltb}
 use Rattle.rules.specs.declared.Answer.{Answer}
 use Rattle.rules.specs.declared.Answer.the-variants.{Pin}
-use Rattle.rules.specs.Halves.{Volatile, Card, off, fresh}
+use Rattle.rules.specs.Halves.{Card, off, fresh}
 use Rattle.rules.specs.Steps.{next, pin}
-use Rattle.rules.specs.Refusals.{refusal, stateRefusal, runRefusal, longest}
+use Rattle.rules.specs.Refusals.{refusal, stateRefusal, before-a-run, runRefusal, longest}
 use Rattle.rules.specs.Card.{Ran, stepped, answered, checkedStep, run, checkedRun}
-use Rattle.rules.specs.Demands.{Alike, freshCard, after, answers, Unopened, ZonesKept, Hidden-before-opening}
+use Rattle.rules.specs.Demands.{Concealed, Alike, after, answers, Unopened, ZonesKept, Hidden-before-opening}
 use Rattle.rules.specs.Demands.{UnopenedRun, Hidden-in-a-run}
 use Rattle.rules.proofs.Tests.{peel}
 use Rattle.rules.proofs.StepCases.{Way}
@@ -29,12 +29,12 @@ unopened-tail : (c : Card) (n : ℕ) (ns : List ℕ) → refusal (c .volatile) n
 unfolding run
 unopened-tail c n ns e u k = rw e at (u (suc k))
 
-module _ (m m′ : List ℕ) (start : Alike m m′) where
+module _ (s s′ : Card) (start : Alike s s′) where
   record Two (c c′ : Card) : Type 0 where
     passes : Passes c
     passes′ : Passes c′
-    closed : Closed m c
-    closed′ : Closed m′ c′
+    closed : Closed s c
+    closed′ : Closed s′ c′
     alike : Alike-cards c c′
 
   two-stepped :
@@ -43,8 +43,8 @@ module _ (m m′ : List ℕ) (start : Alike m m′) where
       record {
         passes = passes-on c n (p .passes);
         passes′ = passes-on c′ n (p .passes′);
-        closed = step-cases (Closed m) c n (closed-moved m (start .unreadable) c n shut (p .closed) (way (c .volatile) n));
-        closed′ = step-cases (Closed m′) c′ n (closed-moved m′ (start .unreadable′) c′ n shut′ (p .closed′) (way (c′ .volatile) n));
+        closed = step-cases (Closed s) c n (closed-moved s (start .concealed .unreadable) c n shut (p .closed) (way (c .volatile) n));
+        closed′ = step-cases (Closed s′) c′ n (closed-moved s′ (start .concealed′ .unreadable) c′ n shut′ (p .closed′) (way (c′ .volatile) n));
         alike =
             step-cases (λ (x : Card). Alike-cards x (stepped c′ n)) c n
             (step-cases (λ (x : Card). Alike-cards (moved w n c) x) c′ n
@@ -86,23 +86,23 @@ module _ (m m′ : List ℕ) (start : Alike m m′) where
 
   record Indistinct (c c′ : Card) (ns : List ℕ) : Type 0 where
     same : answers c ns ≡ answers c′ ns
-    kept : ZonesKept m (after c ns)
-    kept′ : ZonesKept m′ (after c′ ns)
+    kept : ZonesKept s (after c ns)
+    kept′ : ZonesKept s′ (after c′ ns)
 
   indistinct : (c c′ : Card) (ns : List ℕ) → Two c c′ → Unopened c ns → Unopened c′ ns → Indistinct c c′ ns
   unfolding Unopened answers after
   indistinct c c′ [] p u u′ = record { same = refl; kept = p .closed .zones; kept′ = p .closed′ .zones }
   indistinct c c′ (n ∷ ns) p u u′ =
-      let s = checked-step c n (p .passes) in
-      let s′ = checked-step c′ n (p .passes′) in
-      let two = rw (← s, ← s′) at (two-stepped c c′ n (u 0) (u′ 0) p) in
+      let one = checked-step c n (p .passes) in
+      let one′ = checked-step c′ n (p .passes′) in
+      let two = rw (← one, ← one′) at (two-stepped c c′ n (u 0) (u′ 0) p) in
       let rest = indistinct (checkedStep c n) (checkedStep c′ n) ns two (λ k. u (suc k)) (λ k. u′ (suc k)) in
       record {
         same =
             cc (
               checked-answer c n (p .passes),
               checked-answer c′ n (p .passes′),
-              same-answer c c′ n p (u 0) (u′ 0) (rw s at (u 1)) (rw s′ at (u′ 1)),
+              same-answer c c′ n p (u 0) (u′ 0) (rw one at (u 1)) (rw one′ at (u′ 1)),
               rest .same,
             );
         kept = rest .kept;
@@ -112,8 +112,8 @@ module _ (m m′ : List ℕ) (start : Alike m m′) where
   record Indistinct-runs (r r′ : Ran) : Type 0 where
     same : r .answers ≡ r′ .answers
     refused : r .refused ≡ r′ .refused
-    kept : ZonesKept m (r .card)
-    kept′ : ZonesKept m′ (r′ .card)
+    kept : ZonesKept s (r .card)
+    kept′ : ZonesKept s′ (r′ .card)
 
   indistinct-runs : (c c′ : Card) (ns : List ℕ) → Two c c′ → Unopened-in c ns → Unopened-in c′ ns → Indistinct-runs (run c ns) (run c′ ns)
   unfolding run
@@ -135,81 +135,78 @@ module _ (m m′ : List ℕ) (start : Alike m m′) where
       (λ _. record { same = refl; refused = refl; kept = p .closed .zones; kept′ = p .closed′ .zones }))
 
   -- "switched off with all lines low"
-  fresh-two : (fuses : ℕ) → fuses ≤ 7 → Two (freshCard m fuses) (freshCard m′ fuses)
+  first-two : Two s s′
   unfolding fresh off
-  fresh-two fuses fused =
+  first-two =
       record {
-        passes = fresh-passes m fuses (start .sized) fused;
-        passes′ = fresh-passes m′ fuses (start .sized′) fused;
-        closed = record { unread = refl; zones = λ a h. refl };
-        closed′ = record { unread = refl; zones = λ a h. refl };
+        passes = fresh-passes s (one .sized) (one .fused) (one .off);
+        passes′ = fresh-passes s′ (other .sized) (other .fused) (other .off);
+        closed = record { unread = rw (one .off); zones = λ a h. refl };
+        closed′ = record { unread = rw (other .off); zones = λ a h. refl };
         alike =
             record {
-              lines = refl;
-              address = refl;
-              latch = refl;
-              programming = refl;
-              fuses = refl;
-              sized = start .sized ∙ sym (start .sized′);
+              lines = cc (one .off, other .off);
+              address = cc (one .off, other .off);
+              latch = cc (one .off, other .off);
+              programming = cc (one .off, other .off);
+              fuses = start .fuses;
+              sized = one .sized ∙ sym (other .sized);
               outside = start .outside;
             };
       }
+    where
+      one : Concealed s
+      one = start .concealed
+
+      other : Concealed s′
+      other = start .concealed′
 
 pub hidden-before-opening : Hidden-before-opening
-hidden-before-opening m m′ fuses ns start bound u u′ =
-    let r = indistinct m m′ start (freshCard m fuses) (freshCard m′ fuses) ns (fresh-two m m′ start fuses bound) u u′ in
+hidden-before-opening c c′ ns start u u′ =
+    let r = indistinct c c′ start c c′ ns (first-two c c′ start) u u′ in
     record { same = r .same; kept = r .kept; kept′ = r .kept′ }
 
 -- What refuses no run of k steps refuses none of fewer.
-fewer-steps :
-    (m : List ℕ) (fuses : ℕ) (v : Volatile) (room j k : ℕ) → j ≤ k → runRefusal m fuses v k room ≡ 0 → runRefusal m fuses v j room ≡ 0
+fewer-steps : (c : Card) (room j k : ℕ) → j ≤ k → runRefusal c k room ≡ 0 → runRefusal c j room ≡ 0
 unfolding runRefusal
-fewer-steps m fuses v room j k fewer = go (eqb (stateRefusal m fuses v) 0)
+fewer-steps c room j k fewer = go (eqb (stateRefusal c) 0)
   where
     bySteps : (steps : ℕ) → ℕ
     bySteps steps = cond (ltb longest steps) 18 (cond (ltb room steps) 19 0)
 
-    go : (t : Bool) → cond (not t) (stateRefusal m fuses v) (bySteps k) ≡ 0 → cond (not t) (stateRefusal m fuses v) (bySteps j) ≡ 0
+    go : (t : Bool) → cond (not t) (stateRefusal c) (bySteps k) ≡ 0 → cond (not t) (stateRefusal c) (bySteps j) ≡ 0
     go false e = e
     go true e =
         let p = peel (ltb longest k) 17 (cond (ltb room k) 19 0) e in
-        rw (le-ltb longest j (omega (arith, ltb-false longest k (p .0))), le-ltb room j (omega (arith, ltb-false room k (peel (ltb room k) 18 0 (p .1) .0))))
+        let q = peel (ltb room k) 18 0 (p .1) in
+        rw (le-ltb longest j (omega (arith, ltb-false longest k (p .0))), le-ltb room j (omega (arith, ltb-false room k (q .0))))
 
--- 10, 14, 9, 18 and 19 look at nothing of the image but its length.
-same-run-refusal :
-    (m m′ : List ℕ) (fuses : ℕ) (v : Volatile) (steps room : ℕ) → length m ≡ length m′ →
-    runRefusal m fuses v steps room ≡ runRefusal m′ fuses v steps room
-unfolding runRefusal stateRefusal
-same-run-refusal m m′ fuses v steps room e = rw e
+-- What 10, 14 and 9 let pass is refused by 18 and 19 alone.
+passed-run : (c : Card) (steps room : ℕ) → Passes c → runRefusal c steps room ≡ before-a-run 0 steps room
+unfolding runRefusal
+passed-run c steps room p = ap (λ (k : ℕ). before-a-run k steps room) p
 
 unopened-run :
-    (c : Card) (ns : List ℕ) (room : ℕ) → runRefusal (c .memory) (c .fuses) (c .volatile) (length ns) room ≡ 0 →
-    UnopenedRun c ns room → Unopened-in c ns
+    (c : Card) (ns : List ℕ) (room : ℕ) → runRefusal c (length ns) room ≡ 0 → UnopenedRun c ns room → Unopened-in c ns
 unfolding UnopenedRun checkedRun
-unopened-run c ns room e u k =
-    rw (fewer-steps (c .memory) (c .fuses) (c .volatile) room (length (take k ns)) (length ns) (omega (arith, length-take k ns)) e) at
-    (u k)
+unopened-run c ns room e u k = rw (fewer-steps c room (length (take k ns)) (length ns) (omega (arith, length-take k ns)) e) at (u k)
 
 pub hidden-in-a-run : Hidden-in-a-run
 unfolding checkedRun
-hidden-in-a-run m m′ fuses ns room start bound u u′ =
+hidden-in-a-run c c′ ns room start u u′ =
     record { same = all .same; refused = all .refused; kept = all .kept; kept′ = all .kept′ }
   where
-    c : Card
-    c = freshCard m fuses
+    two : Two c c′ start c c′
+    two = first-two c c′ start
 
-    c′ : Card
-    c′ = freshCard m′ fuses
+    alike : runRefusal c (length ns) room ≡ runRefusal c′ (length ns) room
+    alike = passed-run c (length ns) room (two .passes) ∙ sym (passed-run c′ (length ns) room (two .passes′))
 
-    alike : runRefusal m fuses fresh (length ns) room ≡ runRefusal m′ fuses fresh (length ns) room
-    alike = same-run-refusal m m′ fuses fresh (length ns) room (start .sized ∙ sym (start .sized′))
-
-    all : Indistinct-runs m m′ start (checkedRun c ns room) (checkedRun c′ ns room)
+    all : Indistinct-runs c c′ start (checkedRun c ns room) (checkedRun c′ ns room)
     all =
         rw (← alike)
-        (cond-both (Indistinct-runs m m′ start) (eqb (runRefusal m fuses fresh (length ns) room) 0)
+        (cond-both (Indistinct-runs c c′ start) (eqb (runRefusal c (length ns) room) 0)
         (λ t.
-        let e = eqb-true (runRefusal m fuses fresh (length ns) room) 0 t in
-        indistinct-runs m m′ start c c′ ns (fresh-two m m′ start fuses bound) (unopened-run c ns room e u)
-        (unopened-run c′ ns room (sym alike ∙ e) u′))
+        let e = eqb-true (runRefusal c (length ns) room) 0 t in
+        indistinct-runs c c′ start c c′ ns two (unopened-run c ns room e u) (unopened-run c′ ns room (sym alike ∙ e) u′))
         (λ _. record { same = refl; refused = refl; kept = λ a h. refl; kept′ = λ a h. refl }))

@@ -3,6 +3,7 @@ pub mod Stopping
 pub mod Soundness
 pub mod CheckedSteps
 pub mod CodeMatch
+pub mod Runs
 pub mod Macros
 pub mod Counter
 pub mod Opening

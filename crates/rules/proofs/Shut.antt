@@ -9,6 +9,7 @@ use Rattle.memory.specs.Image.{bit}
 use Rattle.rules.specs.Halves.{Volatile, Card, off}
 use Rattle.rules.specs.Zones.{between}
 use Rattle.rules.specs.Rights.{Held, held}
+use Rattle.rules.specs.Programming.{operationNow}
 use Rattle.rules.specs.Match.{arrived}
 use Rattle.rules.specs.Steps.{follows, vccFalls, clkRises, rstFalls, programmed, unlatched, clocked}
 use Rattle.rules.specs.Refusals.{runRefusal}
@@ -26,7 +27,7 @@ record Shut (c : Card) : Type 0 where
   spent : (a : ℕ) → between 96 103 a ≡ true → bit (c .memory) a ≡ false
 
 shut-programmed : (c : Card) (n : ℕ) → Shut c → Shut (programmed (operationOf c) n c)
-unfolding programmed held
+unfolding programmed operationNow held
 shut-programmed c n p =
     let there : Held = held (c .fuses) (c .volatile) in
     record {
@@ -58,5 +59,5 @@ shut-for-good c levels ns h = after-keeps Shut shut-stepped c ns (no-try-left c 
 pub shut-in-a-run : Shut-in-a-run
 unfolding checkedRun
 shut-in-a-run c levels ns room h =
-    cond-cases (λ (r : Ran). r .card .volatile .sv ≡ false) (eqb (runRefusal (c .memory) (c .fuses) (c .volatile) (length ns) room) 0)
+    cond-cases (λ (r : Ran). r .card .volatile .sv ≡ false) (eqb (runRefusal c (length ns) room) 0)
     (λ _. run-keeps Shut shut-stepped c ns (no-try-left c levels h) .unopened) (λ _. no-try-left c levels h .unopened)

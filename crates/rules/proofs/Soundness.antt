@@ -97,7 +97,7 @@ pub record SoundCard (c : Card) : Type 0 where
   pub fused : c .fuses ≤ 7
   pub half : Sound (c .volatile)
 
-pub let-pass : (c : Card) → stateRefusal (c .memory) (c .fuses) (c .volatile) ≡ 0 → SoundCard c
+pub let-pass : (c : Card) → stateRefusal c ≡ 0 → SoundCard c
 unfolding stateRefusal
 let-pass c e =
     let m = peel (not (eqb (length (c .memory)) bytes)) 9 _ e in
@@ -109,7 +109,7 @@ let-pass c e =
       half = sound (c .volatile) (v .0);
     }
 
-pub passes : (c : Card) → SoundCard c → stateRefusal (c .memory) (c .fuses) (c .volatile) ≡ 0
+pub passes : (c : Card) → SoundCard c → stateRefusal c ≡ 0
 unfolding stateRefusal
 passes c s =
     cc (eq-eqb (length (c .memory)) bytes (s .sized), le-ltb 7 (c .fuses) (s .fused), unmade (c .volatile) (s .half))

@@ -6,10 +6,9 @@ use mathlib.Core.List.{List, [], _∷_}
 use lib.Dec.{eqb}
 use borrow.Author.Tests.{eqb-true}
 use Rattle.rules.specs.declared.Operation.{Operation}
-use Rattle.rules.specs.Halves.{Volatile, Card, EC-EN, unblown}
+use Rattle.rules.specs.Halves.{Volatile, Card}
 use Rattle.rules.specs.Lines.{VCC, RST, CLK, PGM, IO, FUS, high, Edge, Same, Rises, Falls, Many, edge}
-use Rattle.rules.specs.Rights.{held}
-use Rattle.rules.specs.Programming.{operation}
+use Rattle.rules.specs.Programming.{operationNow}
 use Rattle.rules.specs.Steps.{follows, withVolatile, vccFalls, clkRises, rstFalls, programmed, unlatched, clocked, clkFalls, powered, next}
 use Rattle.rules.specs.Refusals.{refusal, stateRefusal}
 use Rattle.rules.specs.Card.{Ran, stepped, checkedStep, run}
@@ -23,9 +22,7 @@ pub data Way : Type 0 where
 
 -- The operation that CLK's fall in programming carries out.
 abbrev pub operationOf : Card → Operation
-operationOf c =
-    operation (held (c .fuses) (c .volatile)) (unblown EC-EN (c .fuses)) (high RST (c .volatile .lines)) (c .volatile .latch)
-    (c .volatile .address)
+operationOf c = operationNow (c .fuses) (c .volatile)
 
 unfoldable pub moved : Way → ℕ → Card → Card
 moved Keeps n c = c
@@ -124,7 +121,7 @@ accepted c n e = rw e
 module _ (P : Card → Type 0) (step : (c : Card) (n : ℕ) → P c → P (stepped c n)) where
   checked-keeps : (c : Card) (n : ℕ) → P c → P (checkedStep c n)
   unfolding checkedStep
-  checked-keeps c n p = cond-cases P (eqb (stateRefusal (c .memory) (c .fuses) (c .volatile)) 0) (λ _. step c n p) (λ _. p)
+  checked-keeps c n p = cond-cases P (eqb (stateRefusal c) 0) (λ _. step c n p) (λ _. p)
 
   pub after-keeps : (c : Card) (ns : List ℕ) → P c → P (after c ns)
   unfolding after

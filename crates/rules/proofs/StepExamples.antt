@@ -7,7 +7,7 @@ use lib.ListN.{replicate}
 use Rattle.rules.specs.Halves.{Card}
 use Rattle.rules.specs.Refusals.{refusal, madeUp, stateRefusal}
 use Rattle.rules.specs.Steps.{next}
-use Rattle.rules.specs.Card.{numberOf, checkedStep, checkedAnswer, checkedRun}
+use Rattle.rules.specs.Card.{refusalIn, checkedStep, checkedAnswer, checkedRun}
 use Rattle.rules.specs.Computing.{the-card}
 use Rattle.rules.specs.Demands.{done, freshCard}
 
@@ -20,12 +20,12 @@ steps = 16 ∷ 48 ∷ 49 ∷ 53 ∷ 49 ∷ 51 ∷ 49 ∷ 55 ∷ []
 
 -- I/O and FUS at once; I/O alone.
 pub record Two-lines-at-once : Type 0 where
-  pub refused : numberOf (checkedAnswer caseS 48) ≡ 2
-  pub accepted : numberOf (checkedAnswer caseS 16) ≡ 0
+  pub refused : refusalIn (checkedAnswer caseS 48) ≡ 2
+  pub accepted : refusalIn (checkedAnswer caseS 16) ≡ 0
   pub follows : checkedStep caseS 16 .volatile .lines ≡ 16
 
 pub two-lines-at-once : Two-lines-at-once
-unfolding the-card numberOf
+unfolding the-card refusalIn
 two-lines-at-once = record { refused = refl; accepted = refl; follows = refl }
 
 pub record Stops-at-the-eighth : Type 0 where
@@ -58,7 +58,7 @@ at a matched =
     }
 
 pub record Match-has-to-end : Type 0 where
-  pub sound : stateRefusal (at 103 true .memory) (at 103 true .fuses) (at 103 true .volatile) ≡ 0
+  pub sound : stateRefusal (at 103 true) ≡ 0
   pub accepted : refusal (at 103 true .volatile) 49 ≡ 0
   pub moves : next (at 103 true) 49 .volatile .address ≡ 104
   pub ends : next (at 103 true) 49 .volatile .matched ≡ false

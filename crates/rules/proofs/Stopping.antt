@@ -10,17 +10,17 @@ use borrow.Author.Tests.{eqb-true, eqb-false}
 use Rattle.rules.specs.Halves.{Card}
 use Rattle.rules.specs.Refusals.{refusal, stateRefusal, runRefusal}
 use Rattle.rules.specs.Steps.{next, pin}
-use Rattle.rules.specs.Card.{added, ended, numberOf, stepped, answered, checkedStep, checkedAnswer, run, checkedRun}
+use Rattle.rules.specs.Card.{added, ended, refusalIn, stepped, answered, checkedStep, checkedAnswer, run, checkedRun}
 use Rattle.rules.specs.Demands.{Refused-step-keeps-all, Stops, Run-stops-at-a-refusal}
 use Rattle.rules.proofs.Tests.{cond-cases}
 
 pub refused-step-keeps-all : Refused-step-keeps-all
-unfolding checkedStep checkedAnswer stepped answered numberOf
+unfolding checkedStep checkedAnswer stepped answered refusalIn
 refused-step-keeps-all c n refused =
-    go (eqb (stateRefusal (c .memory) (c .fuses) (c .volatile)) 0) (eqb (refusal (c .volatile) n) 0) refl refl
+    go (eqb (stateRefusal c) 0) (eqb (refusal (c .volatile) n) 0) refl refl
   where
     go :
-        (t u : Bool) → eqb (stateRefusal (c .memory) (c .fuses) (c .volatile)) 0 ≡ t → eqb (refusal (c .volatile) n) 0 ≡ u →
+        (t u : Bool) → eqb (stateRefusal c) 0 ≡ t → eqb (refusal (c .volatile) n) 0 ≡ u →
         checkedStep c n ≡ c
     go false u p q = rw p
     go true false p q = rw (p, q)
@@ -42,7 +42,7 @@ run-stops c (n ∷ ns) =
 
 pub run-stops-at-a-refusal : Run-stops-at-a-refusal
 unfolding checkedRun run
-run-stops-at-a-refusal c ns room = go (runRefusal (c .memory) (c .fuses) (c .volatile) (length ns) room)
+run-stops-at-a-refusal c ns room = go (runRefusal c (length ns) room)
   where
     barred : (k : ℕ) → (k ≡ 0 → ⊥) → eqb k 0 ≡ false → Stops c ns k (ended c k)
     barred k h t = record { before = refl; number = λ _. rw t; all = λ e. absurd (h e) }

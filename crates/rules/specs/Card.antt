@@ -12,13 +12,13 @@ use Rattle.rules.specs.Steps.{next, pin}
 use Rattle.rules.specs.Refusals.{refusal, madeUp, stateRefusal, runRefusal}
 
 -- The refusal of an answer, 0 where it is none, and what the pin says in it.
-unfoldable pub numberOf : Answer → ℕ
-numberOf (Pin b) = 0
-numberOf (Refused k) = k
+unfoldable pub refusalIn : Answer → ℕ
+refusalIn (Pin b) = 0
+refusalIn (Refused k) = k
 
-unfoldable pub pinOf : Answer → ℕ
-pinOf (Pin b) = b
-pinOf (Refused k) = 1
+unfoldable pub pinIn : Answer → ℕ
+pinIn (Pin b) = b
+pinIn (Refused k) = 1
 
 -- A step of a sound card: "A refused step changes nothing and gives back the state as it came, with the number, marked as a refusal, in
 -- place of a pin answer".
@@ -31,12 +31,12 @@ answered c n = cond (eqb (refusal (c .volatile) n) 0) (Pin (pin (next c n))) (Re
 -- A step of whatever comes in: 10, 14 and 9 before 1 to 7.
 unfoldable pub checkedStep : Card → ℕ → Card
 unfolding stepped
-checkedStep c n = cond (eqb (stateRefusal (c .memory) (c .fuses) (c .volatile)) 0) (stepped c n) c
+checkedStep c n = cond (eqb (stateRefusal c) 0) (stepped c n) c
 
 unfoldable pub checkedAnswer : Card → ℕ → Answer
 unfolding answered
 checkedAnswer c n =
-    let r = stateRefusal (c .memory) (c .fuses) (c .volatile) in
+    let r = stateRefusal c in
     cond (eqb r 0) (answered c n) (Refused r)
 
 -- The result of a run: the card, an answer for each step that was done, and the refusal, 0 if none.
@@ -64,7 +64,7 @@ run c (n ∷ ns) =
 unfoldable pub checkedRun : Card → List ℕ → ℕ → Ran
 unfolding run
 checkedRun c ns room =
-    let k = runRefusal (c .memory) (c .fuses) (c .volatile) (length ns) room in
+    let k = runRefusal c (length ns) room in
     cond (eqb k 0) (run c ns) (ended c k)
 
 -- "The rest of the answers buffer keeps its bytes."

@@ -9,7 +9,7 @@ use Rattle.memory.specs.Image.{digit, bytes}
 use Rattle.rules.specs.Halves.{Volatile, Card, fresh}
 use Rattle.rules.specs.declared.Answer.{Answer}
 use Rattle.rules.specs.declared.Answer.the-variants.{Pin, Refused}
-use Rattle.rules.specs.Card.{checkedStep, checkedAnswer, checkedRun, numberOf, flagsRefusal, triesLeft}
+use Rattle.rules.specs.Card.{checkedStep, checkedAnswer, checkedRun, refusalIn, flagsRefusal, triesLeft}
 use Rattle.rules.specs.File.{memorySection, fuseSection, stepSection, cardRefusal, sessionRefusal}
 use Rattle.rules.specs.Maker.{idle, walk, showBits, program, blow, actRefusal}
 use Rattle.rules.specs.Computing.{the-card}
@@ -28,7 +28,7 @@ released = 1
 abbrev pub no-answer : ℕ
 no-answer = 1
 
--- What a volatile half holds besides lines and address: a sum of these.
+-- What a volatile half holds besides lines and address: a sum of these, which are the masks of the packed half's word.
 abbrev pub none : ℕ
 none = 0
 
@@ -41,17 +41,17 @@ P1 = 2
 abbrev pub R1 : ℕ
 R1 = 4
 
-abbrev pub E1 : ℕ
-E1 = 8
-
-abbrev pub Match : ℕ
-Match = 16
+abbrev pub Programming : ℕ
+Programming = 8
 
 abbrev pub Latch : ℕ
-Latch = 32
+Latch = 16
 
-abbrev pub Programming : ℕ
-Programming = 64
+abbrev pub E1 : ℕ
+E1 = 32
+
+abbrev pub Match : ℕ
+Match = 64
 
 -- A volatile half at these levels and this address, holding such a sum.
 unfoldable pub state : ℕ → ℕ → ℕ → Volatile
@@ -63,10 +63,10 @@ state levels a holding =
       sv = digit 0 holding;
       p1 = digit 1 holding;
       r1 = digit 2 holding;
-      e1 = digit 3 holding;
-      matched = digit 4 holding;
-      latch = digit 5 holding;
-      programming = digit 6 holding;
+      e1 = digit 5 holding;
+      matched = digit 6 holding;
+      latch = digit 4 holding;
+      programming = digit 3 holding;
     }
 
 -- A card of these fuses and this image, at these levels and this address.
@@ -186,7 +186,7 @@ pins (Refused k) = []
 
 -- When a case holds. The runs and steps are checked ones: a start that 10, 14 or 9 refuses holds only in a case that says so.
 unfoldable pub holds : Case → Bool
-unfolding the-card sameCard endsIn shows sameAnswer pins numberOf flagsRefusal actRefusal triesLeft onesIn memorySection fuseSection stepSection cardRefusal sessionRefusal
+unfolding the-card sameCard endsIn shows sameAnswer pins refusalIn flagsRefusal actRefusal triesLeft onesIn memorySection fuseSection stepSection cardRefusal sessionRefusal
 holds (Runs c ns d answers) =
     let r = checkedRun c ns (length ns) in
     eqb (r .refused) 0 && (sameCard (r .card) d && endsIn (r .answers) answers)
@@ -198,10 +198,10 @@ holds (Step c n d x) =
     let r = checkedRun c (n ∷ []) 1 in
     sameCard (checkedStep c n) d &&
     (sameAnswer (checkedAnswer c n) x &&
-    (sameCard (r .card) d && (eqb (r .refused) (numberOf x) && sameBytes (r .answers) (pins x))))
+    (sameCard (r .card) d && (eqb (r .refused) (refusalIn x) && sameBytes (r .answers) (pins x))))
 holds (Checks c k) =
     eqb (checkedRun c [] 0 .refused) k &&
-    (eqb (numberOf (checkedAnswer c (c .volatile .lines))) k && eqb (flagsRefusal (c .volatile)) k)
+    (eqb (refusalIn (checkedAnswer c (c .volatile .lines))) k && eqb (flagsRefusal (c .volatile)) k)
 holds (OpensCard file room k) = eqb (cardRefusal file room) k
 holds (OpensSession file room k) = eqb (sessionRefusal file room) k
 holds (Takes refused steps room) = eqb (actRefusal refused steps room) 0 && eqb (actRefusal refused steps (room - 1)) 22

@@ -5,7 +5,7 @@ use mathlib.Core.List.{List, [], _∷_}
 use lib.Dec.{eqb, leb}
 use lib.ListN.{replicate}
 use Rattle.rules.specs.declared.Answer.the-variants.{Pin, Refused}
-use Rattle.rules.specs.Card.{numberOf, pinOf, answersIn}
+use Rattle.rules.specs.Card.{refusalIn, pinIn, answersIn}
 use Rattle.rules.specs.CaseForms.{none, SV, P1, R1, E1, Match, Latch, Programming, zero, one, released, no-answer}
 use Rattle.rules.specs.CaseForms.{cardAt, sample, sameBytes, session, Case, Refuses, Prints, Claims, oneStep, refusesStep, madeUpAt, soundAt, unready}
 use Rattle.rules.specs.CaseRanges.{eachIn, eachOf}
@@ -119,10 +119,10 @@ stateCases =
 
 -- "with the number, marked as a refusal, in place of a pin answer": the refusal of an answer, and its pin.
 unfoldable pub answerCases : List Case
-unfolding numberOf pinOf
+unfolding refusalIn pinIn
 answerCases =
-    Claims (eqb (numberOf (Pin zero)) 0 && (eqb (numberOf (Pin one)) 0 && eqb (numberOf (Refused 3)) 3)) ∷
-    Claims (eqb (pinOf (Pin zero)) zero && (eqb (pinOf (Pin one)) one && eqb (pinOf (Refused 3)) no-answer)) ∷
+    Claims (eqb (refusalIn (Pin zero)) 0 && (eqb (refusalIn (Pin one)) 0 && eqb (refusalIn (Refused 3)) 3)) ∷
+    Claims (eqb (pinIn (Pin zero)) zero && (eqb (pinIn (Pin one)) one && eqb (pinIn (Refused 3)) no-answer)) ∷
     []
 
 -- "stops at the first refused one, giving its number and the count done": no step is looked at before its turn.

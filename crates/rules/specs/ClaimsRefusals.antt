@@ -3,11 +3,10 @@ use Prim.Native.Nat.{ℕ, _+_, _-_, _/_, _%_}
 use mathlib.Core.Bool.{Bool, true, false, cond, not, _&&_, _||_, Bool·beq}
 use mathlib.Core.List.{List, [], _∷_}
 use lib.Dec.{eqb, leb}
-use Rattle.rules.specs.Halves.{fresh}
 use Rattle.rules.specs.Lines.{Line, VCC, RST, CLK, PGM, IO, FUS, Same, Many, edge}
 use Rattle.rules.specs.Refusals.{rises, falls, refusal, madeUp, stateRefusal}
 use Rattle.rules.specs.CaseForms.{none, Programming}
-use Rattle.rules.specs.CaseForms.{state, sample}
+use Rattle.rules.specs.CaseForms.{state, cardAt, sample}
 use Rattle.rules.specs.CaseRanges.{eachOf}
 use Rattle.rules.specs.Computing.{the-card}
 
@@ -114,5 +113,5 @@ isMadeUp levels a holding = madeUp (state levels a holding)
 
 -- A fuse byte of a fresh card is refused by this number, 0 if it is let pass.
 unfoldable pub fusesGet : ℕ → ℕ → Bool
-unfolding the-card sample
-fusesGet k fuses = eqb (stateRefusal sample fuses fresh) k
+unfolding the-card cardAt sample
+fusesGet k fuses = eqb (stateRefusal (cardAt 0 fuses sample 0 none)) k

@@ -14,14 +14,14 @@ use Rattle.rules.specs.Lines.{VCC, high}
 use Rattle.rules.specs.Zones.{between}
 use Rattle.rules.specs.Refusals.{refusal, madeUp, stateRefusal, runRefusal}
 use Rattle.rules.specs.Steps.{next}
-use Rattle.rules.specs.Card.{numberOf, Ran, checkedStep, checkedAnswer, run, checkedRun}
+use Rattle.rules.specs.Card.{refusalIn, Ran, checkedStep, checkedAnswer, run, checkedRun}
 use Rattle.rules.specs.Maker.{idle, digits, zerosBefore, open-card, actRefusal, openRefusal}
 
 -- Demand 1: "A waveform without a meaning is refused by its number in document 01; card, lines and lent buffers then hold what they held
 -- after the last accepted step."
 
 abbrev pub Refused-step-keeps-all : Type 0
-Refused-step-keeps-all = (c : Card) (n : ℕ) → (numberOf (checkedAnswer c n) ≡ 0 → ⊥) → checkedStep c n ≡ c
+Refused-step-keeps-all = (c : Card) (n : ℕ) → (refusalIn (checkedAnswer c n) ≡ 0 → ⊥) → checkedStep c n ≡ c
 
 -- The steps that were done.
 abbrev pub done : Ran → ℕ
@@ -36,15 +36,14 @@ pub record Stops (c : Card) (ns : List ℕ) (k : ℕ) (r : Ran) : Type 0 where
 abbrev pub Run-stops-at-a-refusal : Type 0
 Run-stops-at-a-refusal =
     (c : Card) (ns : List ℕ) (room : ℕ) →
-    Stops c ns (runRefusal (c .memory) (c .fuses) (c .volatile) (length ns) room) (checkedRun c ns room)
+    Stops c ns (runRefusal c (length ns) room) (checkedRun c ns room)
 
 -- Demand 2: "After each accepted step the pin, the flags, the fuses and the memory are those of the data sheet, source document 004, as 01
 -- settles it." The contracts of step and run say so. 01 adds: "A state that 9 lets pass never leads to one that 9 refuses." With it, an
 -- image of 174 bytes and a fuse byte up to 7 stay so.
 abbrev pub Sound-stays-sound : Type 0
 Sound-stays-sound =
-    (c : Card) (n : ℕ) → stateRefusal (c .memory) (c .fuses) (c .volatile) ≡ 0 → refusal (c .volatile) n ≡ 0 →
-    stateRefusal (next c n .memory) (next c n .fuses) (next c n .volatile) ≡ 0
+    (c : Card) (n : ℕ) → stateRefusal c ≡ 0 → refusal (c .volatile) n ≡ 0 → stateRefusal (next c n) ≡ 0
 
 -- Demand 2: "On a powered, idle, unopened card, the maker's steps for showing a code and using a try that is still there open the card
 -- and restore its counter word if the code is right. If it is wrong they spend exactly one try and the card stays shut."
@@ -124,14 +123,21 @@ Opens-as-made =
 unfoldable pub hidden : ℕ → Bool
 hidden a = between 80 95 a || (between 176 1199 a || between 1200 1231 a)
 
-pub record Alike (m m′ : List ℕ) : Type 0 where
-  pub sized : length m ≡ bytes
-  pub sized′ : length m′ ≡ bytes
-  pub outside : (a : ℕ) → hidden a ≡ false → bit m a ≡ bit m′ a
-  pub unreadable : bit m 177 ≡ false
-  pub unreadable′ : bit m′ 177 ≡ false
+-- "switched off with all lines low, .. bit 177 being zero", and let pass by 10 and 14
+pub record Concealed (c : Card) : Type 0 where
+  pub sized : length (c .memory) ≡ bytes
+  pub fused : c .fuses ≤ 7
+  pub off : c .volatile ≡ fresh
+  pub unreadable : bit (c .memory) 177 ≡ false
 
--- "switched off with all lines low"
+-- "alike in fuses and in every bit outside" those zones
+pub record Alike (c c′ : Card) : Type 0 where
+  pub concealed : Concealed c
+  pub concealed′ : Concealed c′
+  pub fuses : c .fuses ≡ c′ .fuses
+  pub outside : (a : ℕ) → hidden a ≡ false → bit (c .memory) a ≡ bit (c′ .memory) a
+
+-- A card that is switched off with all lines low.
 abbrev pub freshCard : List ℕ → ℕ → Card
 freshCard m fuses = record { memory = m; fuses = fuses; volatile = fresh }
 
@@ -149,35 +155,33 @@ answers c (n ∷ ns) = checkedAnswer c n ∷ answers (checkedStep c n) ns
 unfoldable pub Unopened : Card → List ℕ → Type 0
 Unopened c ns = (k : ℕ) → after c (take k ns) .volatile .sv ≡ false
 
--- The three zones hold every bit of m.
-abbrev pub ZonesKept : List ℕ → Card → Type 0
-ZonesKept m c = (a : ℕ) → hidden a ≡ true → bit (c .memory) a ≡ bit m a
+-- The three zones hold every bit that they held in the first card.
+abbrev pub ZonesKept : Card → Card → Type 0
+ZonesKept c d = (a : ℕ) → hidden a ≡ true → bit (d .memory) a ≡ bit (c .memory) a
 
-pub record Indistinguishable (m m′ : List ℕ) (fuses : ℕ) (ns : List ℕ) : Type 0 where
-  pub same : answers (freshCard m fuses) ns ≡ answers (freshCard m′ fuses) ns
-  pub kept : ZonesKept m (after (freshCard m fuses) ns)
-  pub kept′ : ZonesKept m′ (after (freshCard m′ fuses) ns)
+pub record Indistinguishable (c c′ : Card) (ns : List ℕ) : Type 0 where
+  pub same : answers c ns ≡ answers c′ ns
+  pub kept : ZonesKept c (after c ns)
+  pub kept′ : ZonesKept c′ (after c′ ns)
 
 abbrev pub Hidden-before-opening : Type 0
 Hidden-before-opening =
-    (m m′ : List ℕ) (fuses : ℕ) (ns : List ℕ) → Alike m m′ → fuses ≤ 7 → Unopened (freshCard m fuses) ns →
-    Unopened (freshCard m′ fuses) ns → Indistinguishable m m′ fuses ns
+    (c c′ : Card) (ns : List ℕ) → Alike c c′ → Unopened c ns → Unopened c′ ns → Indistinguishable c c′ ns
 
 -- The same of a run, as its contract gives it.
 unfoldable pub UnopenedRun : Card → List ℕ → ℕ → Type 0
 UnopenedRun c ns room = (k : ℕ) → checkedRun c (take k ns) room .card .volatile .sv ≡ false
 
-pub record IndistinguishableRuns (m m′ : List ℕ) (fuses : ℕ) (ns : List ℕ) (room : ℕ) : Type 0 where
-  pub same : checkedRun (freshCard m fuses) ns room .answers ≡ checkedRun (freshCard m′ fuses) ns room .answers
-  pub refused : checkedRun (freshCard m fuses) ns room .refused ≡ checkedRun (freshCard m′ fuses) ns room .refused
-  pub kept : ZonesKept m (checkedRun (freshCard m fuses) ns room .card)
-  pub kept′ : ZonesKept m′ (checkedRun (freshCard m′ fuses) ns room .card)
+pub record IndistinguishableRuns (c c′ : Card) (ns : List ℕ) (room : ℕ) : Type 0 where
+  pub same : checkedRun c ns room .answers ≡ checkedRun c′ ns room .answers
+  pub refused : checkedRun c ns room .refused ≡ checkedRun c′ ns room .refused
+  pub kept : ZonesKept c (checkedRun c ns room .card)
+  pub kept′ : ZonesKept c′ (checkedRun c′ ns room .card)
 
 abbrev pub Hidden-in-a-run : Type 0
 Hidden-in-a-run =
-    (m m′ : List ℕ) (fuses : ℕ) (ns : List ℕ) (room : ℕ) → Alike m m′ → fuses ≤ 7 →
-    UnopenedRun (freshCard m fuses) ns room → UnopenedRun (freshCard m′ fuses) ns room →
-    IndistinguishableRuns m m′ fuses ns room
+    (c c′ : Card) (ns : List ℕ) (room : ℕ) → Alike c c′ → UnopenedRun c ns room → UnopenedRun c′ ns room →
+    IndistinguishableRuns c c′ ns room
 
 -- "A card that is switched off with no try left never opens, whatever steps and power cuts follow."
 pub record NoTryLeft (c : Card) (levels : ℕ) : Type 0 where

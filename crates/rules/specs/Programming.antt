@@ -10,8 +10,9 @@ use Rattle.rules.specs.declared.Zone.the-variants.{Block, FuseMF, FuseEC
 use Rattle.rules.specs.declared.Operation.{Operation}
 use Rattle.rules.specs.declared.Operation.the-variants.{Nothing, WriteBit, EraseWord, EraseZone}
 use Rattle.rules.specs.declared.Operation.the-variants.{WriteBlock, EraseBlock, BlowMF, BlowECEN, BlowISS}
-use Rattle.rules.specs.Halves.{MF, EC-EN, ISS, blown}
-use Rattle.rules.specs.Rights.{Held, level1, granted, rights, no}
+use Rattle.rules.specs.Halves.{MF, EC-EN, ISS, unblown, blown, Volatile}
+use Rattle.rules.specs.Lines.{RST, high}
+use Rattle.rules.specs.Rights.{Held, held, level1, granted, rights, no}
 use Rattle.rules.specs.Zones.{between, zone, row, isFuse}
 
 -- L2 erase in EC: "With EC_EN blown only at 1232."
@@ -46,6 +47,14 @@ effect l1 latch z =
 unfoldable pub operation : Held → Bool → Bool → Bool → ℕ → Operation
 unfolding mayProgram effect zone
 operation h ec-en rst latch a = cond (mayProgram h ec-en rst latch a (zone a)) (effect (level1 h) latch (zone a)) Nothing
+
+-- The right and the operation of a moment: "under the flags and lines of that moment".
+unfoldable pub mayProgramNow : ℕ → Volatile → Bool
+mayProgramNow fuses v =
+    mayProgram (held fuses v) (unblown EC-EN fuses) (high RST (v .lines)) (v .latch) (v .address) (zone (v .address))
+
+unfoldable pub operationNow : ℕ → Volatile → Operation
+operationNow fuses v = operation (held fuses v) (unblown EC-EN fuses) (high RST (v .lines)) (v .latch) (v .address)
 
 -- The operation on the image: bits 176 to 1199 are the bytes 22 to 149, the block's bits 16 to 1359 the bytes 2 to 169.
 unfoldable pub memoryAfter : Operation → ℕ → List ℕ → List ℕ

@@ -5,7 +5,7 @@ use mathlib.Core.List.{List}
 use lib.Dec.{eqb, ltb}
 use lib.ListN.{length}
 use Rattle.memory.specs.Image.{bytes}
-use Rattle.rules.specs.Halves.{Volatile}
+use Rattle.rules.specs.Halves.{Volatile, Card}
 use Rattle.rules.specs.Lines.{Line, VCC, RST, CLK, PGM, FUS, place, high, Edge, Same, Rises, Falls, Many, edge}
 use Rattle.rules.specs.Zones.{between, last}
 
@@ -46,9 +46,13 @@ edgeRefusal e levels programming =
     (cond (rises VCC e && (high CLK levels || high PGM levels)) 7 0)))))
 
 -- 1 to 7, of the lines, programming and the step alone; 0 where the step is accepted.
-unfoldable pub refusal : Volatile → ℕ → ℕ
+unfoldable pub lineRefusal : ℕ → Bool → ℕ → ℕ
 unfolding edgeRefusal
-refusal v n = cond (ltb 63 n) 1 (edgeRefusal (edge (v .lines) n) (v .lines) (v .programming))
+lineRefusal levels programming n = cond (ltb 63 n) 1 (edgeRefusal (edge levels n) levels programming)
+
+unfoldable pub refusal : Volatile → ℕ → ℕ
+unfolding lineRefusal
+refusal v n = lineRefusal (v .lines) (v .programming) n
 
 -- Anything of the volatile half but the lines is not zero.
 unfoldable pub anySet : Volatile → Bool
@@ -74,9 +78,9 @@ madeUp v =
 unfoldable pub before-a-step : List ℕ → ℕ → Bool → ℕ
 before-a-step m fuses made = cond (not (eqb (length m) bytes)) 10 (cond (ltb 7 fuses) 14 (cond made 9 0))
 
-unfoldable pub stateRefusal : List ℕ → ℕ → Volatile → ℕ
+unfoldable pub stateRefusal : Card → ℕ
 unfolding madeUp before-a-step
-stateRefusal m fuses v = before-a-step m fuses (madeUp v)
+stateRefusal c = before-a-step (c .memory) (c .fuses) (madeUp (c .volatile))
 
 -- "a run of over 4,096 steps"
 abbrev pub longest : ℕ
@@ -86,6 +90,6 @@ longest = 4096
 unfoldable pub before-a-run : ℕ → ℕ → ℕ → ℕ
 before-a-run k steps room = cond (not (eqb k 0)) k (cond (ltb longest steps) 18 (cond (ltb room steps) 19 0))
 
-unfoldable pub runRefusal : List ℕ → ℕ → Volatile → ℕ → ℕ → ℕ
+unfoldable pub runRefusal : Card → ℕ → ℕ → ℕ
 unfolding stateRefusal before-a-run
-runRefusal m fuses v steps room = before-a-run (stateRefusal m fuses v) steps room
+runRefusal c steps room = before-a-run (stateRefusal c) steps room

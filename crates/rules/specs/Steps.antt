@@ -7,7 +7,7 @@ use Rattle.rules.specs.Halves.{Volatile, Card, off, EC-EN, unblown}
 use Rattle.rules.specs.Lines.{VCC, RST, CLK, PGM, IO, FUS, high, Edge, Same, Rises, Falls, Many, edge}
 use Rattle.rules.specs.Zones.{zone}
 use Rattle.rules.specs.Rights.{held, level1, mayRead}
-use Rattle.rules.specs.Programming.{operation, memoryAfter, fusesAfter, opens, keyOpens}
+use Rattle.rules.specs.Programming.{operationNow, memoryAfter, fusesAfter, opens, keyOpens}
 use Rattle.rules.specs.Match.{compared, following, arrived}
 
 -- New levels, with the match, the latched data and the programming that they leave; all else stays.
@@ -86,11 +86,10 @@ clocked n c =
 
 -- What CLK's fall does. "With RST high: nothing", but for the latch.
 unfoldable pub clkFalls : ℕ → Card → Card
-unfolding programmed operation clocked unlatched
+unfolding programmed operationNow clocked unlatched
 clkFalls n c =
     let v = c .volatile in
-    let op = operation (held (c .fuses) v) (unblown EC-EN (c .fuses)) (high RST (v .lines)) (v .latch) (v .address) in
-    cond (v .programming) (programmed op n c)
+    cond (v .programming) (programmed (operationNow (c .fuses) v) n c)
     (cond (high RST (v .lines)) (withVolatile c (unlatched n (v .matched) v)) (clocked n c))
 
 -- What an edge does while VCC is on, n being the levels after it. "a step with no difference is accepted and changes nothing"
@@ -119,15 +118,16 @@ next c n =
     cond (high VCC (v .lines)) (powered (edge (v .lines) n) n c) (withVolatile c (follows n v))
 
 -- "VCC is on, RST and PGM are low, no programming is under way, the address may be read"
-unfoldable pub driven : Card → Bool
+unfoldable pub driven : ℕ → Volatile → Bool
 unfolding held mayRead
-driven c =
-    let v = c .volatile in
+driven fuses v =
     high VCC (v .lines) &&
-    (not (high RST (v .lines)) &&
-    (not (high PGM (v .lines)) && (not (v .programming) && mayRead (held (c .fuses) v) (zone (v .address)))))
+    (not (high RST (v .lines)) && (not (high PGM (v .lines)) && (not (v .programming) && mayRead (held fuses v) (zone (v .address)))))
 
--- "Answer: 0 exactly if .. its bit is 0. Else 1 (the line is released)."
+-- "Answer: 0 exactly if .. its bit is 0. Else 1 (the line is released).", of whether the line is driven, and the bit.
+unfoldable pub pinValue : Bool → Bool → ℕ
+pinValue driven bit = cond driven (cond bit 1 0) 1
+
 unfoldable pub pin : Card → ℕ
-unfolding driven
-pin c = cond (driven c) (cond (bit (c .memory) (c .volatile .address)) 1 0) 1
+unfolding driven pinValue
+pin c = pinValue (driven (c .fuses) (c .volatile)) (bit (c .memory) (c .volatile .address))

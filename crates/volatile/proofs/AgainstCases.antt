@@ -3,12 +3,12 @@ use mathlib.Core.Path.{refl}
 use Rattle.rules.specs.Computing.{the-card}
 use Rattle.rules.specs.CaseForms.{state, cardAt, ones, sample}
 use Rattle.volatile.specs.Packed.{unpacked, packed, madeUpWord, plainlySound, lackingOf}
-use Rattle.volatile.specs.Packed.{programmedHalf, comparedHere, mayProgramNow, operationNow, goneOn, arrivalFlags, openingFlags}
+use Rattle.volatile.specs.Packed.{programmedHalf, comparedHere, goneOn, arrivalFlags, openingFlags}
 use Rattle.volatile.specs.Cases.{Flags-apart, Made-up, Plainly-sound, Lacking, Programmed, Moved, Operates}
 
 pub flags-apart : Flags-apart
 unfolding the-card cardAt unpacked packed
-flags-apart = (refl, refl, refl)
+flags-apart = (refl, refl, refl, refl)
 
 pub made-up : Made-up
 unfolding the-card madeUpWord
@@ -31,5 +31,5 @@ unfolding the-card state ones sample comparedHere goneOn arrivalFlags
 moved = (refl, refl, refl, refl, refl, refl, refl)
 
 pub operates : Operates
-unfolding the-card state mayProgramNow operationNow
+unfolding the-card state
 operates = (refl, refl, refl, refl, refl, refl, refl, refl)

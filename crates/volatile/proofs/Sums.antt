@@ -4,11 +4,11 @@ use native.Mathlib.Omega.{arith}
 use native.Mathlib.Nat.{mod-lt, zero-min, pow-suc}
 use mathlib.Core.Path.{_≡_, refl, sym, ap, _∙_}
 use mathlib.Core.Bool.{Bool, true, false, cond, not, _&&_, _||_, Bool·beq, and-true, false≢true}
-use mathlib.Core.List.{List, []}
+use mathlib.Core.List.{List}
 use lib.Dec.{eqb, ltb}
 use lib.Bits.{bitAnd, and-step, and-zero-l}
 use borrow.Author.Tests.{ltb-false, eq-eqb, ne-eqb}
-use Rattle.memory.specs.Image.{digit, bit}
+use Rattle.memory.specs.Image.{digit}
 use Rattle.memory.proofs.Below.{all}
 use Rattle.rules.specs.Lines.{VCC, RST, PGM, high, place}
 use Rattle.rules.specs.Rights.{Held, held, level1, met, granted}
@@ -17,10 +17,9 @@ use Rattle.rules.specs.Refusals.{anySet, madeUp}
 use Rattle.rules.specs.declared.Operation.the-variants.{Nothing}
 use Rattle.rules.specs.Halves.{EC-EN, unblown}
 use Rattle.rules.specs.Halves as Halves
-use Rattle.rules.specs.Programming.{asks, mayProgram, effect, operation}
-use Rattle.rules.specs.Steps.{driven, pin}
+use Rattle.rules.specs.Programming.{asks, mayProgram, effect, operation, mayProgramNow, operationNow}
 use Rattle.volatile.specs.declared.Volatile.{Volatile}
-use Rattle.volatile.specs.Packed.{one, lackingOf, unpacked, cardOf, madeUpWord, mayProgramNow, operationNow}
+use Rattle.volatile.specs.Packed.{one, lackingOf, unpacked, madeUpWord}
 use Rattle.volatile.proofs.Packing.{digit-one, halves, last-digit, digit-low, agree-below, masked-test}
 
 as-one : (b : Bool) (m : ℕ) → cond b 0 m ≡ m * one (not b)
@@ -158,13 +157,6 @@ module _ (l : ℕ) (rest : Bool) where
       go true true c e = rw e
       go true false c e = absurd (false≢true e)
       go false b c e = absurd (false≢true e)
-
--- Whether the pin is driven does not depend on the image, so the pin is a bit of it or 1.
-pub pin-by :
-    (m : List ℕ) (fuses : ℕ) (v : Volatile) (t : Bool) → driven (cardOf [] fuses v) ≡ t →
-    pin (cardOf m fuses v) ≡ cond t (cond (bit m (v .address)) 1 0) 1
-unfolding pin driven unpacked
-pin-by m fuses v t e = rw e
 
 -- The right and the operation, taken apart.
 module _ (fuses : ℕ) (v : Halves.Volatile) where

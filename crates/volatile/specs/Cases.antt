@@ -9,10 +9,11 @@ use mathlib.Core.List.{List, [], _∷_, map}
 use lib.ListN.{set}
 use Rattle.rules.specs.declared.Operation.the-variants.{Nothing, WriteBit, EraseWord, EraseZone, BlowISS}
 use Rattle.rules.specs.Rights.{held}
+use Rattle.rules.specs.Programming.{mayProgramNow, operationNow}
 use Rattle.rules.specs.CaseForms.{none, SV, P1, R1, E1, Match, Latch, Programming, state, cardAt, ones, sample}
 use Rattle.volatile.specs.declared.Volatile.{Volatile}
-use Rattle.volatile.specs.Packed.{unpacked, packed, cardOf, madeUpWord, wired, plainlySound, lackingOf}
-use Rattle.volatile.specs.Packed.{programmedHalf, comparedHere, mayProgramNow, operationNow, goneOn, arrivalFlags, openingFlags}
+use Rattle.volatile.specs.Packed.{unpacked, packed, given, cardOf, handedBack, madeUpWord, wired, plainlySound, lackingOf}
+use Rattle.volatile.specs.Packed.{programmedHalf, comparedHere, goneOn, arrivalFlags, openingFlags}
 
 -- Of what stands left in each row f makes what stands right.
 abbrev pub Gives : {A B : Type 0} → (A → B) → List (A × B) → Type 0
@@ -45,7 +46,8 @@ Flags-apart =
     (E1, half 21 85 32) ∷
     (Match, half 21 85 64) ∷
     []) ×
-    (cardOf sample 5 (half 21 85 65) ≡ cardAt 21 5 sample 85 (SV + Match))
+    (cardOf (given sample 5 (half 21 85 65)) ≡ cardAt 21 5 sample 85 (SV + Match)) ×
+    (handedBack (cardAt 21 5 sample 85 (SV + Match)) ≡ given sample 5 (half 21 85 65))
 
 -- 9: a word over 127 is made up; up to there 01's clauses decide.
 abbrev pub Made-up : Type 0

@@ -5,13 +5,10 @@ use mathlib.Core.List.{List}
 use lib.Dec.{eqb, ltb}
 use lib.Bits.{bitAnd}
 use Rattle.memory.specs.Image.{digit, bit}
-use Rattle.rules.specs.declared.Operation.{Operation}
 use Rattle.rules.specs.Halves.{Card, EC-EN, unblown}
-use Rattle.rules.specs.Lines.{RST, high}
 use Rattle.rules.specs.Halves as Halves
-use Rattle.rules.specs.Rights.{Held, held}
-use Rattle.rules.specs.Zones.{between, zone}
-use Rattle.rules.specs.Programming.{mayProgram, operation}
+use Rattle.rules.specs.Rights.{Held}
+use Rattle.rules.specs.Zones.{between}
 use Rattle.rules.specs.Match.{compared}
 use Rattle.rules.specs.Refusals.{madeUp}
 use Rattle.volatile.specs.declared.Volatile.{Volatile}
@@ -50,9 +47,25 @@ packed v =
       flags = word (v .sv) (v .p1) (v .r1) (v .programming) (v .latch) (v .e1) (v .matched);
     }
 
--- The card that an image, a fuse byte and a packed half make.
-abbrev pub cardOf : List ℕ → ℕ → Volatile → Card
-cardOf m fuses v = record { memory = m; fuses = fuses; volatile = unpacked v }
+-- The card that a call is given: image and fuse byte, and the packed half.
+pub record Given : Type 0 where
+  pub memory : List ℕ
+  pub fuses : ℕ
+  pub half : Volatile
+
+abbrev pub given : List ℕ → ℕ → Volatile → Given
+given m fuses v = record { memory = m; fuses = fuses; half = v }
+
+-- The card that it stands for, and back.
+abbrev pub cardOf : Given → Card
+cardOf g = record { memory = g .memory; fuses = g .fuses; volatile = unpacked (g .half) }
+
+abbrev pub handedBack : Card → Given
+handedBack c = record { memory = c .memory; fuses = c .fuses; half = packed (c .volatile) }
+
+-- The same card with another half.
+abbrev pub withHalf : Given → Volatile → Given
+withHalf g v = record { memory = g .memory; fuses = g .fuses; half = v }
 
 -- 9 of a packed half. 01's clauses are `madeUp`; a word with a flag that no card has is made up too, which is this packing's own clause.
 unfoldable pub madeUpWord : Volatile → Bool
@@ -91,16 +104,9 @@ programmedHalf l1 ec-en turned n v =
       programming = false;
     }
 
--- The match that the compare at the present address gives, and the operation that takes effect there.
+-- The match that the compare at the present address gives.
 unfoldable pub comparedHere : List ℕ → Bool → Halves.Volatile → Bool
 comparedHere m l1 v = compared l1 (v .sv) (v .latch) (bit m (v .address)) (v .address) (v .matched)
-
-unfoldable pub mayProgramNow : ℕ → Halves.Volatile → Bool
-mayProgramNow fuses v =
-    mayProgram (held fuses v) (unblown EC-EN fuses) (high RST (v .lines)) (v .latch) (v .address) (zone (v .address))
-
-unfoldable pub operationNow : ℕ → Halves.Volatile → Operation
-operationNow fuses v = operation (held fuses v) (unblown EC-EN fuses) (high RST (v .lines)) (v .latch) (v .address)
 
 -- The volatile half where the address has gone on to a, and nothing else changed.
 unfoldable pub goneOn : ℕ → ℕ → Halves.Volatile → Halves.Volatile

@@ -3,14 +3,16 @@ use memory::is_set;
 use rules::Operation;
 ghost use mathlib.Core.Path.{_≡_};
 ghost use mathlib.Core.Bool.{cond};
+ghost use Rattle.memory.specs.Image.{bit};
 ghost use mathlib.Core.List.{[]};
 ghost use Prim.Native.Nat.{_≤_};
 ghost use Rattle.rules.specs.Halves.{fresh, off};
 ghost use Rattle.rules.specs.Zones.{zone};
 ghost use Rattle.rules.specs.Rights.{held, level1, mayRead};
+ghost use Rattle.rules.specs.Programming.{mayProgramNow, operationNow};
 ghost use Rattle.rules.specs.Match.{arrived};
-ghost use Rattle.rules.specs.Steps.{follows, clkRises, unlatched, driven, pin};
-ghost use Rattle.volatile.specs.Packed.{packed, unpacked, cardOf, madeUpWord, plainlySound, lackingOf, programmedHalf, goneOn, openingFlags, arrivalFlags, comparedHere, mayProgramNow, operationNow};
+ghost use Rattle.rules.specs.Steps.{follows, clkRises, unlatched, driven, pinValue};
+ghost use Rattle.volatile.specs.Packed.{packed, unpacked, madeUpWord, plainlySound, lackingOf, programmedHalf, goneOn, openingFlags, arrivalFlags, comparedHere};
 
 // Places of the lines in a step.
 pub const VCC: u32 = 0;
@@ -61,6 +63,19 @@ fn unless(there: bool, mask: u8) -> u8
     ensures { λ r. ⌜ (r ≡ cond there 0 mask) × (r ≤ mask) ⌝ }
 {
     if there { 0 } else { mask }
+}
+
+// What the pin answers where the card drives nothing.
+pub const RELEASED: u8 = 1;
+
+// What the pin answers, by whether it is driven, and the bit.
+pub fn pin_value(driven: bool, bit: bool) -> u8
+    ensures { λ r. ⌜ r ≡ pinValue driven bit ⌝ }
+{
+    if !driven {
+        return RELEASED;
+    }
+    if bit { 1 } else { 0 }
 }
 
 // The flags that come with the arrival at 176, 177 or 1232.
@@ -275,7 +290,7 @@ impl Volatile {
 
     // VCC is on, RST and PGM are low, no programming is under way, and the address may be read.
     pub fn driven(self, fuses: u8) -> bool
-        ensures { λ r. ⌜ r ≡ driven (cardOf [] fuses self) ⌝ }
+        ensures { λ r. ⌜ r ≡ driven fuses (unpacked self) ⌝ }
     {
         if self.lines & 11 != 1 {
             return false;
@@ -288,14 +303,12 @@ impl Volatile {
 
     // What the pin answers.
     pub fn pin(self, image: &[u8], fuses: u8) -> u8
-        ensures { λ r. ⌜ r ≡ pin (cardOf (now (image .entry)) fuses self) ⌝ }
+        ensures { λ r. ⌜ r ≡ pinValue (driven fuses (unpacked self)) (bit (now (image .entry)) (self .address)) ⌝ }
     {
-        if self.driven(fuses) {
-            if !memory::read_bit(image, self.address as usize) {
-                return 0;
-            }
+        if !self.driven(fuses) {
+            return RELEASED;
         }
-        1
+        pin_value(true, memory::read_bit(image, self.address as usize))
     }
 
     // The match that the compare at the present address gives.

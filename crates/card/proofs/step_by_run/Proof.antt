@@ -1,6 +1,5 @@
-use denote.Ref.{now}
+use Rattle.card.proofs.Answers.{fits, step-of-run}
 use borrow.Author.Needs.{needs}
-use Rattle.card.proofs.Answers.{step-refused, step-done}
 use Rattle.card.proofs.step_by_run.Statement.{statement}
 use Rattle.card.proofs.step_by_run.Tie as tie
 
@@ -11,30 +10,18 @@ slice-aggregate-drive-2 : tie.Need-slice-aggregate-drive-2
 slice-aggregate-drive-2 c = search needs
 
 drive-requires : tie.Need-drive-requires
-drive-requires c κs = search needs
+drive-requires c κs = fits _ (c .before .before .before .before .args .n) (c .before .before .before .before .pre)
+
+array-read-t17 : tie.Need-array-read-t17
+array-read-t17 c = search needs
 
 same-length : tie.Need-same-length
 same-length c = search needs
 
 returns : tie.Need-returns
 returns c =
-    let drive = c .before .before .before .before .before .before .drive in
-    let start = c .before .before .before .before .before .before .before .before .before .before .before in
-    let a = start .args in
-    step-refused (now (a .image)) (a .fuses) (a .v) (a .n) (drive .result) (drive .last .0) (drive .last .1 .1 .1 .1 .0) (start .pre) (drive .ensures) (c .if1 .taken)
-
-array-read-t19 : tie.Need-array-read-t19
-array-read-t19 c = search needs
-
-same-length-2 : tie.Need-same-length-2
-same-length-2 c = search needs
-
-returns-2 : tie.Need-returns-2
-returns-2 c =
-    let drive = c .before .before .before .before .before .before .drive in
-    let start = c .before .before .before .before .before .before .before .before .before .before .before in
-    let a = start .args in
-    step-done (now (a .image)) (a .fuses) (a .v) (a .n) (drive .result) (drive .last .0) (drive .last .1 .1 .1 .1 .0) (start .pre) (drive .ensures) (c .if1 .left)
+    let ran = c .before .before .before .before in
+    step-of-run _ _ (ran .before .before .before .before .before .pre) (ran .drive .ensures)
 
 pub step-by-run-spec : {M : Type 1} → statement M
 step-by-run-spec =
@@ -43,8 +30,6 @@ step-by-run-spec =
     slice-aggregate-drive
     slice-aggregate-drive-2
     drive-requires
+    array-read-t17
     same-length
-    returns
-    array-read-t19
-    same-length-2
-    returns-2)
+    returns)

@@ -1,34 +1,50 @@
-use mathlib.Core.Logic.{inl, inr}
-use Rattle.card.proofs.PlainMoves.{low-driven, az-driven}
+use Rattle.volatile.proofs.Packing.{unpacked-packed}
+use Rattle.card.proofs.HandedOn.{clocks}
 use borrow.Author.Needs.{needs}
 use Rattle.card.proofs.edges.clock_counts.Statement.{statement}
 use Rattle.card.proofs.edges.clock_counts.Tie as tie
 
-clock-goes-on-requires : tie.Need-clock-goes-on-requires
-clock-goes-on-requires c κs = (inl (c .if2 .taken), low-driven (c .before .before .before .args .fuses) (c .before .before .before .args .v) (c .before .before .before .args .n) (c .before .if1 .taken) (c .if2 .taken))
+level1-requires : tie.Need-level1-requires
+level1-requires c κs = search needs
+
+compared-requires : tie.Need-compared-requires
+compared-requires c κs = search needs
+
+unlatched-requires : tie.Need-unlatched-requires
+unlatched-requires c κs = search needs
+
+following-requires : tie.Need-following-requires
+following-requires c κs = search needs
+
+arrives-requires : tie.Need-arrives-requires
+arrives-requires c κs = search needs
+
+read-requires : tie.Need-read-requires
+read-requires c κs = search needs
 
 returns : tie.Need-returns
-returns c = search needs
-
-clock-goes-on-requires-2 : tie.Need-clock-goes-on-requires-2
-clock-goes-on-requires-2 c κs = (inr (inl (c .before .before .if3 .taken, c .before .if4 .taken)), az-driven (c .before .before .before .before .before .before .args .fuses) (c .before .before .before .before .before .before .args .v) (c .before .before .before .before .before .before .args .n) (c .before .before .before .before .if1 .taken) (c .before .before .if3 .taken) (c .before .if4 .taken))
-
-returns-2 : tie.Need-returns-2
-returns-2 c = search needs
-
-clock-moves-requires : tie.Need-clock-moves-requires
-clock-moves-requires c κs = search needs
-
-returns-3 : tie.Need-returns-3
-returns-3 c = search needs
+returns c =
+    let along = c .before .before in
+    let compare = along .before .before in
+    rw (
+      c .read .ensures,
+      c .before .arrives .ensures,
+      along .following .ensures,
+      along .before .unlatched .ensures,
+      unpacked-packed,
+      compare .compared .ensures,
+      compare .before .level1 .ensures,
+    )
+    (clocks _ _)
 
 pub clock-counts-spec : {M : Type 1} → statement M
 clock-counts-spec =
     tie.close
     (tie.spec
-    clock-goes-on-requires
-    returns
-    clock-goes-on-requires-2
-    returns-2
-    clock-moves-requires
-    returns-3)
+    level1-requires
+    compared-requires
+    unlatched-requires
+    following-requires
+    arrives-requires
+    read-requires
+    returns)

@@ -1,10 +1,7 @@
-use native.Mathlib.Omega.{arith}
-use mathlib.Core.Path.{refl}
-use denote.Ref.{now}
-use Rattle.rules.specs.Lines.{FUS, high, place, change}
+use mathlib.Core.Path.{sym, _∙_}
+use Rattle.rules.specs.Lines.{FUS, high, place, mask}
 use Rattle.volatile.specs.Packed.{unpacked}
-use Rattle.card.proofs.Turned.{by-difference}
-use Rattle.card.proofs.ByLine.{line-turned, fus-refused, fus-follows}
+use Rattle.card.proofs.ByLine.{turned, fus-refused, fus-goes, reads}
 use borrow.Author.Needs.{needs}
 use Rattle.card.proofs.edges.fuse.Statement.{statement}
 use Rattle.card.proofs.edges.fuse.Tie as tie
@@ -12,42 +9,34 @@ use Rattle.card.proofs.edges.fuse.Tie as tie
 is-set-requires : tie.Need-is-set-requires
 is-set-requires c κs = search needs
 
-is-set-requires-2 : tie.Need-is-set-requires-2
-is-set-requires-2 c κs = search needs
-
 refused-requires : tie.Need-refused-requires
 refused-requires c κs = search needs
 
 returns : tie.Need-returns
-unfolding high place unpacked by-difference change
+unfolding high place mask unpacked
 returns c =
-    let a = c .before .before .before .before .before .args in
-    let ready = c .before .before .before .before .before .pre .0 in
-    let t = line-turned (now (a .image)) (a .fuses) (a .v) (a .pin) (a .n) ready FUS 32 (omega arith) refl (c .before .before .before .before .before .pre .1) in
-    rw (c .refused .ensures) (fus-refused (now (a .image)) (a .fuses) (a .v) (a .pin) (a .n) ready t (rw (c .before .before .before .is-set .ensures, c .before .before .is-set2 .ensures) at (c .before .if1 .taken)))
+    let asked = c .before in
+    let start = asked .before .before .before in
+    let ready = start .pre .0 in
+    rw (c .refused .ensures)
+    (fus-refused ready _ (turned ready _ FUS (start .pre .1)) (sym (asked .before .is-set .ensures) ∙ asked .if1 .taken))
 
 follows-requires : tie.Need-follows-requires
 follows-requires c κs = search needs
 
-accepted-requires : tie.Need-accepted-requires
-accepted-requires c κs = search needs
+read-requires : tie.Need-read-requires
+read-requires c κs = search needs
 
 returns-2 : tie.Need-returns-2
-unfolding high place unpacked by-difference change
+unfolding high place mask unpacked
 returns-2 c =
-    let a = c .before .before .before .before .before .before .args in
-    let ready = c .before .before .before .before .before .before .pre .0 in
-    let t = line-turned (now (a .image)) (a .fuses) (a .v) (a .pin) (a .n) ready FUS 32 (omega arith) refl (c .before .before .before .before .before .before .pre .1) in
-    rw (c .accepted .ensures, c .before .follows .ensures) (fus-follows (now (a .image)) (a .fuses) (a .v) (a .pin) (a .n) ready t (rw (c .before .before .before .before .is-set .ensures, c .before .before .before .is-set2 .ensures) at (c .before .before .if1 .left)))
+    let asked = c .before .before in
+    let start = asked .before .before .before in
+    let ready = start .pre .0 in
+    rw (c .read .ensures, c .before .follows .ensures)
+    (reads ready _ (fus-goes ready _ (turned ready _ FUS (start .pre .1)) (sym (asked .before .is-set .ensures) ∙ asked .if1 .left)))
 
 pub fuse-spec : {M : Type 1} → statement M
 fuse-spec =
     tie.close
-    (tie.spec
-    is-set-requires
-    is-set-requires-2
-    refused-requires
-    returns
-    follows-requires
-    accepted-requires
-    returns-2)
+    (tie.spec is-set-requires refused-requires returns follows-requires read-requires returns-2)

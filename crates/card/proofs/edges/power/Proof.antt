@@ -1,10 +1,7 @@
-use native.Mathlib.Omega.{arith}
-use mathlib.Core.Path.{refl, sym, _∙_}
-use denote.Ref.{now}
-use Rattle.rules.specs.Lines.{VCC, high, place, change}
-use Rattle.volatile.specs.Packed.{unpacked}
-use Rattle.card.proofs.Turned.{by-difference}
-use Rattle.card.proofs.ByLine.{line-turned, vcc-falls, vcc-refused, vcc-rises}
+use mathlib.Core.Path.{sym, _∙_}
+use borrow.Author.Tests.{not-true, not-false}
+use Rattle.rules.specs.Lines.{VCC, high, place, mask}
+use Rattle.card.proofs.ByLine.{turned, vcc-off, vcc-refused, vcc-rises, reads}
 use borrow.Author.Needs.{needs}
 use Rattle.card.proofs.edges.power.Statement.{statement}
 use Rattle.card.proofs.edges.power.Tie as tie
@@ -15,47 +12,45 @@ is-set-requires c κs = search needs
 power-falls-requires : tie.Need-power-falls-requires
 power-falls-requires c κs = search needs
 
-kept-requires : tie.Need-kept-requires
-kept-requires c κs = search needs
+known-requires : tie.Need-known-requires
+known-requires c κs = search needs
 
 returns : tie.Need-returns
-unfolding high place unpacked by-difference change
+unfolding high place mask
 returns c =
-    let a = c .before .before .before .before .before .args in
-    let ready = c .before .before .before .before .before .pre .0 in
-    let t = line-turned (now (a .image)) (a .fuses) (a .v) (a .pin) (a .n) ready VCC 1 (omega arith) refl (c .before .before .before .before .before .pre .1) in
-    rw (c .kept .ensures, c .before .power-falls .ensures) (vcc-falls (now (a .image)) (a .fuses) (a .v) (a .pin) (a .n) ready t (sym (c .before .before .before .is-set .ensures) ∙ c .before .before .if1 .taken))
-
-is-set-requires-2 : tie.Need-is-set-requires-2
-is-set-requires-2 c κs = search needs
-
-is-set-requires-3 : tie.Need-is-set-requires-3
-is-set-requires-3 c κs = search needs
+    let asked = c .before .before in
+    let start = asked .before .before .before in
+    let ready = start .pre .0 in
+    let off = sym (asked .before .is-set .ensures) ∙ not-true (asked .before .is-set .result) (asked .if1 .taken) in
+    rw (c .known .ensures, c .before .power-falls .ensures) (vcc-off ready _ (turned ready _ VCC (start .pre .1)) off)
 
 refused-requires : tie.Need-refused-requires
 refused-requires c κs = search needs
 
 returns-2 : tie.Need-returns-2
-unfolding high place unpacked by-difference change
+unfolding high place mask
 returns-2 c =
-    let a = c .before .before .before .before .before .before .before .args in
-    let ready = c .before .before .before .before .before .before .before .pre .0 in
-    let t = line-turned (now (a .image)) (a .fuses) (a .v) (a .pin) (a .n) ready VCC 1 (omega arith) refl (c .before .before .before .before .before .before .before .pre .1) in
-    rw (c .refused .ensures) (vcc-refused (now (a .image)) (a .fuses) (a .v) (a .pin) (a .n) ready t (sym (c .before .before .before .before .before .is-set .ensures) ∙ c .before .before .before .before .if1 .left) (rw (c .before .before .before .is-set2 .ensures, c .before .before .is-set3 .ensures) at (c .before .if2 .taken)))
+    let asked = c .before .before in
+    let start = asked .before .before .before in
+    let ready = start .pre .0 in
+    let on = sym (asked .before .is-set .ensures) ∙ not-false (asked .before .is-set .result) (asked .if1 .left) in
+    rw (c .refused .ensures) (vcc-refused ready _ (turned ready _ VCC (start .pre .1)) on (c .before .if2 .taken))
 
 follows-requires : tie.Need-follows-requires
 follows-requires c κs = search needs
 
-accepted-requires : tie.Need-accepted-requires
-accepted-requires c κs = search needs
+read-requires : tie.Need-read-requires
+read-requires c κs = search needs
 
 returns-3 : tie.Need-returns-3
-unfolding high place unpacked by-difference change
+unfolding high place mask
 returns-3 c =
-    let a = c .before .before .before .before .before .before .before .before .args in
-    let ready = c .before .before .before .before .before .before .before .before .pre .0 in
-    let t = line-turned (now (a .image)) (a .fuses) (a .v) (a .pin) (a .n) ready VCC 1 (omega arith) refl (c .before .before .before .before .before .before .before .before .pre .1) in
-    rw (c .accepted .ensures, c .before .follows .ensures) (vcc-rises (now (a .image)) (a .fuses) (a .v) (a .pin) (a .n) ready t (sym (c .before .before .before .before .before .before .is-set .ensures) ∙ c .before .before .before .before .before .if1 .left) (rw (c .before .before .before .before .is-set2 .ensures, c .before .before .before .is-set3 .ensures) at (c .before .before .if2 .left)))
+    let asked = c .before .before .before in
+    let start = asked .before .before .before in
+    let ready = start .pre .0 in
+    let on = sym (asked .before .is-set .ensures) ∙ not-false (asked .before .is-set .result) (asked .if1 .left) in
+    rw (c .read .ensures, c .before .follows .ensures)
+    (reads ready _ (vcc-rises ready _ (turned ready _ VCC (start .pre .1)) on (c .before .before .if2 .left)))
 
 pub power-spec : {M : Type 1} → statement M
 power-spec =
@@ -63,12 +58,10 @@ power-spec =
     (tie.spec
     is-set-requires
     power-falls-requires
-    kept-requires
+    known-requires
     returns
-    is-set-requires-2
-    is-set-requires-3
     refused-requires
     returns-2
     follows-requires
-    accepted-requires
+    read-requires
     returns-3)

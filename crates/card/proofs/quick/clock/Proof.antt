@@ -1,15 +1,12 @@
-use native.Mathlib.Omega.{arith}
-use mathlib.Core.Path.{refl, sym, _∙_}
+use mathlib.Core.Path.{sym, _∙_}
 use borrow.Author.Tests.{not-true, not-false}
-use borrow.Author.Needs.{needs}
-use Rattle.rules.specs.Lines.{CLK, high, place, change}
-use Rattle.rules.proofs.Tests.{neither}
+use Rattle.rules.specs.Lines.{CLK, high, place, mask}
 use Rattle.volatile.specs.Packed.{unpacked}
 use Rattle.card.specs.Moves.{QuickTo}
-use Rattle.card.proofs.Turned.{by-difference}
-use Rattle.card.proofs.ByLine.{clk-unpowered-goes, clk-rises-goes}
-use Rattle.card.proofs.PlainMoves.{plain-below}
-use Rattle.card.proofs.WithoutLoop.{quick-by, goes-plainly}
+use Rattle.card.proofs.Masks.{high-low}
+use Rattle.card.proofs.ByLine.{clk-unpowered, clk-rises, clk-reset}
+use Rattle.card.proofs.WithoutLoop.{quick-by}
+use borrow.Author.Needs.{needs}
 use Rattle.card.proofs.quick.clock.Statement.{statement}
 use Rattle.card.proofs.quick.clock.Tie as tie
 
@@ -20,14 +17,12 @@ follows-requires : tie.Need-follows-requires
 follows-requires c κs = search needs
 
 returns : tie.Need-returns
-unfolding high place by-difference change
+unfolding high place mask
 returns c =
-    let start = c .before .before .before in
-    let v = start .args .v in
-    let n = start .args .n in
-    let vcc = sym (c .before .before .is-set .ensures) ∙ not-true (c .before .before .is-set .result) (c .before .if1 .taken) in
-    rw (c .follows .ensures)
-    (quick-by v n CLK 4 _ (omega arith) refl (start .pre) (λ m fuses p ready t. clk-unpowered-goes m fuses v p n ready t vcc))
+    let off = c .before in
+    let start = off .before .before in
+    let vcc = sym (off .before .is-set .ensures) ∙ not-true (off .before .is-set .result) (off .if1 .taken) in
+    rw (c .follows .ensures) (quick-by _ _ CLK _ (start .pre) (λ m fuses p ready t. clk-unpowered ready _ t vcc))
 
 is-set-requires-2 : tie.Need-is-set-requires-2
 is-set-requires-2 c κs = search needs
@@ -36,16 +31,14 @@ clock-rises-requires : tie.Need-clock-rises-requires
 clock-rises-requires c κs = search needs
 
 returns-2 : tie.Need-returns-2
-unfolding high place by-difference change
+unfolding high place mask
 returns-2 c =
-    let on = c .before .before .before in
+    let up = c .before in
+    let on = up .before .before in
     let start = on .before .before in
-    let v = start .args .v in
-    let n = start .args .n in
     let vcc = sym (on .before .is-set .ensures) ∙ not-false (on .before .is-set .result) (on .if1 .left) in
-    let clk = sym (c .before .before .is-set2 .ensures) ∙ not-true (c .before .before .is-set2 .result) (c .before .if2 .taken) in
-    rw (c .clock-rises .ensures)
-    (quick-by v n CLK 4 _ (omega arith) refl (start .pre) (λ m fuses p ready t. clk-rises-goes m fuses v p n ready t vcc clk))
+    let clk = sym (up .before .is-set2 .ensures) ∙ up .if2 .taken in
+    rw (c .clock-rises .ensures) (quick-by _ _ CLK _ (start .pre) (λ m fuses p ready t. clk-rises ready _ t vcc clk))
 
 is-set-requires-3 : tie.Need-is-set-requires-3
 is-set-requires-3 c κs = search needs
@@ -53,40 +46,31 @@ is-set-requires-3 c κs = search needs
 is-set-requires-4 : tie.Need-is-set-requires-4
 is-set-requires-4 c κs = search needs
 
+is-set-requires-5 : tie.Need-is-set-requires-5
+is-set-requires-5 c κs = search needs
+
+unlatched-requires : tie.Need-unlatched-requires
+unlatched-requires c κs = search needs
+
 returns-3 : tie.Need-returns-3
-unfolding QuickTo
-returns-3 c = tt
-
-is-plain-requires : tie.Need-is-plain-requires
-is-plain-requires c κs = search needs
-
-add-goes-on : tie.Need-add-goes-on
-add-goes-on c =
-    let a = c .before .before .before .before .before .before .before .before .before .args .v .address in
-    omega (arith, plain-below a (c .before .is-plain .ensures (c .if4 .taken)))
-
-goes-on-requires : tie.Need-goes-on-requires
-goes-on-requires c κs = search needs
-
-returns-4 : tie.Need-returns-4
-unfolding high place unpacked by-difference change
-returns-4 c =
-    let counting = c .before .before .before in
-    let high-clk = counting .before .before .before in
-    let on = high-clk .before .before in
+unfolding high place mask unpacked
+returns-3 c =
+    let held = c .before in
+    let reset = held .before in
+    let down = reset .before .before .before in
+    let on = down .before .before in
     let start = on .before .before in
     let vcc = sym (on .before .is-set .ensures) ∙ not-false (on .before .is-set .result) (on .if1 .left) in
-    let clk = sym (high-clk .before .is-set2 .ensures) ∙ not-false (high-clk .before .is-set2 .result) (high-clk .if2 .left) in
-    let idle = neither _ _ (counting .if3 .left) in
-    let rst = sym (counting .before .before .is-set3 .ensures) ∙ idle .0 in
-    let programming = sym (counting .before .is-set4 .ensures) ∙ idle .1 in
-    rw (c .goes-on .ensures)
-    (quick-by (start .args .v) (start .args .n) CLK 4 _ (omega arith) refl (start .pre)
-    (goes-plainly (start .args .v) (start .args .n) vcc clk programming rst (c .before .before .is-plain .ensures (c .before .if4 .taken))))
+    let clk = sym (down .before .is-set2 .ensures) ∙ down .if2 .left in
+    let both = high-low _ _ (reset .if3 .taken) in
+    let rst = sym (reset .before .before .is-set3 .ensures) ∙ both .0 in
+    let idle = sym (reset .before .is-set4 .ensures) ∙ both .1 in
+    rw (c .unlatched .ensures, held .is-set5 .ensures)
+    (quick-by _ _ CLK _ (start .pre) (λ m fuses p ready t. clk-reset ready _ t vcc clk idle rst))
 
-returns-5 : tie.Need-returns-5
+returns-4 : tie.Need-returns-4
 unfolding QuickTo
-returns-5 c = tt
+returns-4 c = tt
 
 pub clock-spec : {M : Type 1} → statement M
 clock-spec =
@@ -100,9 +84,7 @@ clock-spec =
     returns-2
     is-set-requires-3
     is-set-requires-4
+    is-set-requires-5
+    unlatched-requires
     returns-3
-    is-plain-requires
-    add-goes-on
-    goes-on-requires
-    returns-4
-    returns-5)
+    returns-4)

@@ -1,5 +1,5 @@
 use Rattle.exports.proofs.Shown.{as-byte}
-use Rattle.card.specs.Contracts.{flagsNumber, flagsHeld}
+use Rattle.card.specs.Contracts.{flagsRefused, flagsHeld}
 use Rattle.exports.specs.Rendered.{flagBytes}
 use borrow.Author.Needs.{needs}
 use Rattle.exports.proofs.steps.zhav_flags.Statement.{statement}
@@ -27,11 +27,11 @@ enum-known-told-2 : tie.Need-enum-known-told-2
 enum-known-told-2 c = search needs
 
 returns : tie.Need-returns
-unfolding flagBytes flagsHeld flagsNumber
+unfolding flagBytes flagsHeld flagsRefused
 returns c = rw (← c .before .before .before .flags .ensures, c .before .told .given .1) (simp as-byte)
 
 returns-2 : tie.Need-returns-2
-unfolding flagBytes flagsHeld flagsNumber
+unfolding flagBytes flagsHeld flagsRefused
 returns-2 c = rw (← c .before .before .before .flags .ensures, c .before .told2 .given .1)
 
 pub zhav-flags-spec : {M : Type 1} → statement M

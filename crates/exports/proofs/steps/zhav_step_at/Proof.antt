@@ -42,11 +42,11 @@ use denote.Triple.Walked.{says, Stays, stay-ref, stay-none, gave-slice, walkOf, 
 use denote.Exit.{yes}
 use denote.Signature.{plain}
 use Rattle.volatile.specs.declared.Volatile.{Volatile}
+use Rattle.volatile.specs.Packed.{Given as GivenCard, given}
 use Rattle.volatile.proofs.Volatile as T
 use Rattle.volatile.proofs.Volatile.Laws as T′
 use Rattle.exports.specs.declared.steps.ZhavStepped.{ZhavStepped}
 use Rattle.exports.specs.declared.steps.ZhavTold.{ZhavTold}
-use Rattle.exports.specs.Rendered.{steppedOf, toldOf}
 use Rattle.exports.specs.Told.{StepTold, StepToldAt}
 use Rattle.exports.proofs.steps.ZhavStepped as S
 use Rattle.exports.proofs.steps.ZhavStepped.Laws as S′
@@ -73,9 +73,8 @@ Step 𝓤 H A at-mem run = tripleOf 𝓤 H A step.signature (step.spec 𝓤 H A 
 abbrev toldBy : ZhavStepped → ZhavTold
 toldBy r = record { fuses = r .fuses; answer = r .answer; refusal = r .refusal }
 
-told-at : (m : List ℕ) (fuses : ℕ) (v : Volatile) (n : ℕ) (r : ZhavStepped) (after : List ℕ) → StepTold m fuses v n r after → StepToldAt m fuses v n (toldBy r) (r .half) after
-unfolding steppedOf toldOf
-told-at m fuses v n r after told = record { answer = ap toldBy (told .answer); lent = ap (λ (s : ZhavStepped). s .half) (told .answer); memory = told .memory }
+told-at : {g : GivenCard} {n : ℕ} {r : ZhavStepped} {after : List ℕ} → StepTold g n r after → StepToldAt g n (toldBy r) (r .half) after
+told-at told = record { card = told .card; answer = told .answer; refusal = told .refusal }
 
 -- the machine values of the half, of what `zhav_step` hands back, and of the result
 abbrev half : Volatile → Val
@@ -123,12 +122,12 @@ module _ {M : Type 1} (𝓤 : URA M) (H : Heap 𝓤) (A : Atoms 𝓤) (W : Given
       owned ! T.the-row (Is T.the-row) ((LL.makes T.the-type T′.the-plain) 𝓤 H A) h _ was $ fjoin ! $ owned ! u8 (Is u8) (uint-makes 𝓤 H A W w8) f _ (refl, f-fits) $ fjoin ! $
       move ! (2 ∷ 0 ∷ []) $ fjoin ! $ move ! (1 ∷ 0 ∷ []) $ join ! $ frame ! $ done !
 
-  exits : (r : ZhavStepped) (zs : List ℕ) → StepTold ys f h n r zs → length zs ≡ length ys → Is U.the-row (toldBy r) (told (toldBy r) ∷ [])
+  exits : (r : ZhavStepped) (zs : List ℕ) → StepTold (given ys f h) n r zs → length zs ≡ length ys → Is U.the-row (toldBy r) (told (toldBy r) ∷ [])
       → ent 𝓤 (⋆ 𝓤 H A (‵ (fobs γ′ (T.the-row .coded .code (r .half))) ∷ ‵ (fbor κ′ (Body (mem T.the-row) b′ o′ γ′)) ∷ ‵ (flft κ′ q′) ∷ (‵ (flft κ q) ⊛ ‵ ftrue) ∷ ‵ (finally u8 γ zs) ∷ [])) (Post (told (toldBy r)))
   exits r zs e l is =
       qed W (‵ (fobs γ′ (T.the-row .coded .code (r .half))) ∷ ‵ (fbor κ′ (Body (mem T.the-row) b′ o′ γ′)) ∷ ‵ (flft κ′ q′) ∷ (‵ (flft κ q) ⊛ ‵ ftrue) ∷ ‵ (finally u8 γ zs) ∷ []) ∵
       suffices ! _ (ends-at 𝓤 H A step-at.ended stayed (step-at.clauses 𝓤 H A at-mem run) W (((κ, (κ′, tt)), (q, (q′, tt)), tt, a, vals), tt) (told (toldBy r)) (toldBy r) (zs, (tt, (r .half, (tt, tt)))) (l, (tt, (tt, (tt, tt))))) $
-      says ! (told-at ys f h n r zs e) $ move ! (3 ∷ []) $ split ! $ move ! (4 ∷ 1 ∷ []) $ join ! $ move ! (1 ∷ 0 ∷ []) $ join ! $ frame ! $
+      says ! (told-at e) $ move ! (3 ∷ []) $ split ! $ move ! (4 ∷ 1 ∷ []) $ join ! $ move ! (1 ∷ 0 ∷ []) $ join ! $ frame ! $
       feqI ! (List Val) (vptr b′ o′ ∷ []) (vptr b′ o′ ∷ []) refl $ fjoin3 ! $ nothing ! $ owned ! u8 (Is u8) (uint-makes 𝓤 H A W w8) n _ (refl, n-fits) $ fjoin ! $ move ! (1 ∷ 0 ∷ []) $ fjoin ! $
       owned ! u8 (Is u8) (uint-makes 𝓤 H A W w8) f _ (refl, f-fits) $ fjoin ! $ move ! (1 ∷ 0 ∷ []) $ fjoin ! $
       owned ! U.the-row (Is U.the-row) ((LL.makes U.the-type U′.the-plain) 𝓤 H A) (toldBy r) _ is $ move ! (1 ∷ 0 ∷ []) $ done !
@@ -153,8 +152,8 @@ module _ {M : Type 1} (𝓤 : URA M) (H : Heap 𝓤) (A : Atoms 𝓤) (W : Given
         calls-at ! fm (Step 𝓤 H A at-mem run) known to-step (and-then ! (load ! (from ! (stop !)) (look ! 8 refl)) (and-then ! (load ! (from ! (stop !)) (look ! 18 refl)) (and-then ! (load ! (from ! (stop !)) (look ! 6 refl)) (and-then ! (load ! (from ! (stop !)) (look ! 14 refl)) (no-more !))))) (λ w.
         use1 W (later (some (λ (r : ZhavStepped). ((‵ (flft κ q) ⊛ ‵ ftrue) ⊛ ‵ (S.the-row .own r (w ∷ []))) ⊛ raw (ensured 𝓤 H A step.ended (step.clauses 𝓤 H A at-mem run) (κ, tt) (x, (f, (h, (n, tt)))) tt r)))) (id⊢ 𝓤 _) $ await ! tt $ pick ! (λ r.
         -- what `zhav_step` ensures, at some last image
-        split ! $ move ! (1 ∷ []) $ use1 W (some (λ (zs : List ℕ × (Unit {0} × (Unit {0} × (Unit {0} × Unit {0})))). ‵ (lasts step.ended (κ, tt) (x, (f, (h, (n, tt)))) zs) ⊛ raw (fact 𝓤 (StepTold ys f h n r (zs .0))))) (id⊢ 𝓤 _) $ pick ! (λ zs.
-        split ! $ move ! (1 ∷ []) $ heard ! (StepTold ys f h n r (zs .0)) (λ e. fsplit ! $ fsplit ! $ move ! (1 ∷ []) $ feqL ! (λ l.
+        split ! $ move ! (1 ∷ []) $ use1 W (some (λ (zs : List ℕ × (Unit {0} × (Unit {0} × (Unit {0} × Unit {0})))). ‵ (lasts step.ended (κ, tt) (x, (f, (h, (n, tt)))) zs) ⊛ raw (fact 𝓤 (StepTold (given ys f h) n r (zs .0))))) (id⊢ 𝓤 _) $ pick ! (λ zs.
+        split ! $ move ! (1 ∷ []) $ heard ! (StepTold (given ys f h) n r (zs .0)) (λ e. fsplit ! $ fsplit ! $ move ! (1 ∷ []) $ feqL ! (λ l.
         move ! (2 ∷ []) $ split ! $ move ! (1 ∷ []) $ peeks ! S.the-row (Is S.the-row) (shows 𝓤 H A S.the-row) r (w ∷ []) (λ is.
         land ! (from ! (stop !)) (init ! 15 refl (LL.lawful S.the-type S′.the-laws 𝓤 H A W .typed r _ is .0)) $ rewrite ! 15 (λ (u : Val). ‵ (fat fullShare S′.mir l₅ 0 u)) (ap only (LL.tells S.the-type S′.the-laws r _ is)) refl $
         -- [what was handed back; the image's token; its last bytes; …; the half's cell; the open borrow; obs; auth; what n owns; _8; …; _7; …; _6; …; _5; …; _4; …; _3; …; _2; …; _1; …; room for _0; …]

@@ -1,0 +1,63 @@
+use mathlib.Core.Path.{sym, _∙_}
+use borrow.Author.Needs.{needs}
+use Rattle.card.proofs.inner_step.step.Statement.{statement}
+use Rattle.card.proofs.inner_step.step.Tie as tie
+
+is-set-requires : tie.Need-is-set-requires
+is-set-requires c κs = search needs
+
+clock-requires : tie.Need-clock-requires
+clock-requires c κs =
+    let asked = c .before in
+    let line = asked .before .before in
+    (line .before .before .before .pre, (sym (asked .before .is-set .ensures) ∙ asked .if2 .taken, line .if1 .taken))
+
+same-length : tie.Need-same-length
+same-length c = search needs
+
+returns : tie.Need-returns
+returns c = search needs
+
+clock-requires-2 : tie.Need-clock-requires-2
+clock-requires-2 c κs =
+    let asked = c .before in
+    let line = asked .before .before in
+    (line .before .before .before .pre, (sym (asked .before .is-set .ensures) ∙ asked .if2 .left, line .if1 .taken))
+
+with-fuses-requires : tie.Need-with-fuses-requires
+with-fuses-requires c κs = search needs
+
+same-length-2 : tie.Need-same-length-2
+same-length-2 c = search needs
+
+returns-2 : tie.Need-returns-2
+returns-2 c = rw (c .with-fuses .ensures) (c .before .clock2 .ensures)
+
+other-than-clock-requires : tie.Need-other-than-clock-requires
+other-than-clock-requires c κs = search needs
+
+with-fuses-requires-2 : tie.Need-with-fuses-requires-2
+with-fuses-requires-2 c κs = search needs
+
+same-length-3 : tie.Need-same-length-3
+same-length-3 c = search needs
+
+returns-3 : tie.Need-returns-3
+returns-3 c = rw (c .with-fuses2 .ensures) (c .before .other-than-clock .ensures)
+
+pub step-spec : {M : Type 1} → statement M
+step-spec =
+    tie.close
+    (tie.spec
+    is-set-requires
+    clock-requires
+    same-length
+    returns
+    clock-requires-2
+    with-fuses-requires
+    same-length-2
+    returns-2
+    other-than-clock-requires
+    with-fuses-requires-2
+    same-length-3
+    returns-3)

@@ -1,0 +1,55 @@
+use mathlib.Core.Path.{sym, _∙_}
+use Rattle.rules.specs.Lines.{CLK, high, place, mask}
+use Rattle.volatile.specs.Packed.{unpacked}
+use Rattle.card.proofs.ByLine.{turned, clk-refused, clk-programs}
+use borrow.Author.Needs.{needs}
+use Rattle.card.proofs.programming.clock.Statement.{statement}
+use Rattle.card.proofs.programming.clock.Tie as tie
+
+is-set-requires : tie.Need-is-set-requires
+is-set-requires c κs = search needs
+
+refused-requires : tie.Need-refused-requires
+refused-requires c κs = search needs
+
+with-fuses-requires : tie.Need-with-fuses-requires
+with-fuses-requires c κs = search needs
+
+returns : tie.Need-returns
+unfolding high place mask unpacked
+returns c =
+    let asked = c .before .before in
+    let start = asked .before .before .before in
+    let ready = start .pre .0 in
+    let t = turned ready _ CLK (start .pre .1 .1) in
+    rw (c .with-fuses .ensures, c .before .refused .ensures)
+    (clk-refused ready _ t (start .pre .1 .0) (sym (asked .before .is-set .ensures) ∙ asked .if1 .taken))
+
+clock-falls-requires : tie.Need-clock-falls-requires
+clock-falls-requires c κs = search needs
+
+same-length : tie.Need-same-length
+same-length c = search needs
+
+returns-2 : tie.Need-returns-2
+unfolding high place mask unpacked
+returns-2 c =
+    let done = c .before .before in
+    let asked = done .before .before in
+    let start = asked .before .before .before in
+    let ready = start .pre .0 in
+    let t = turned ready _ CLK (start .pre .1 .1) in
+    rw (done .clock-falls .ensures .0, done .clock-falls .ensures .1)
+    (clk-programs ready _ t (start .pre .1 .0) (sym (asked .before .is-set .ensures) ∙ asked .if1 .left))
+
+pub clock-spec : {M : Type 1} → statement M
+clock-spec =
+    tie.close
+    (tie.spec
+    is-set-requires
+    refused-requires
+    with-fuses-requires
+    returns
+    clock-falls-requires
+    same-length
+    returns-2)

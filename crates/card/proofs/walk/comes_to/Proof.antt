@@ -1,0 +1,53 @@
+use Prim.Native.Nat.{_<_}
+use native.Mathlib.Omega.{arith}
+use mathlib.Core.Path.{sym, _∙_}
+use borrow.Author.Tests.{eq-eqb, lt-ltb}
+use Rattle.card.proofs.AtOnce.{walked}
+use borrow.Author.Needs.{needs}
+use Rattle.card.proofs.walk.comes_to.Statement.{statement}
+use Rattle.card.proofs.walk.comes_to.Tie as tie
+
+clocks-requires : tie.Need-clocks-requires
+clocks-requires c κs = search needs
+
+shows-requires : tie.Need-shows-requires
+shows-requires c κs = search needs
+
+none-requires : tie.Need-none-requires
+none-requires c κs = search needs
+
+returns : tie.Need-returns
+returns c =
+    let asked = c .before in
+    rw (c .none .ensures, ← asked .before .before .clocks .ensures, asked .before .shows .ensures .plain, asked .if1 .taken)
+
+cast-read-bit : tie.Need-cast-read-bit
+cast-read-bit c = search needs
+
+read-bit-requires : tie.Need-read-bit-requires
+read-bit-requires c κs = search needs
+
+pin-value-requires : tie.Need-pin-value-requires
+pin-value-requires c κs = search needs
+
+returns-2 : tie.Need-returns-2
+returns-2 c =
+    let asked = c .before .before .before in
+    let moved = asked .before .before .clocks .ensures in
+    let shows = rw moved at (asked .before .shows .ensures) in
+    let less : asked .before .shows .result < 2 = omega (arith, shows .small, asked .if1 .left) in
+    rw (c .pin-value .ensures, c .before .read-bit .ensures, moved, shows .plain, lt-ltb _ 2 less)
+    (sym (walked (asked .before .before .before .before .pre) shows less))
+
+pub comes-to-spec : {M : Type 1} → statement M
+comes-to-spec =
+    tie.close
+    (tie.spec
+    clocks-requires
+    shows-requires
+    none-requires
+    returns
+    cast-read-bit
+    read-bit-requires
+    pin-value-requires
+    returns-2)

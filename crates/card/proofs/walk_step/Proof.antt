@@ -1,0 +1,78 @@
+use native.Mathlib.Omega.{arith}
+use mathlib.Core.Path.{sym, _∙_}
+use borrow.Author.Tests.{not-true, not-false}
+use Rattle.card.proofs.AtOnce.{not-still, not-calm, too-far, not-sized, not-fused, all-passed}
+use borrow.Author.Needs.{needs}
+use Rattle.card.proofs.walk_step.Statement.{statement}
+use Rattle.card.proofs.walk_step.Tie as tie
+
+none-requires : tie.Need-none-requires
+none-requires c κs = search needs
+
+returns : tie.Need-returns
+returns c = rw (c .none .ensures) (not-still _ _ (c .before .if1 .taken))
+
+is-calm-requires : tie.Need-is-calm-requires
+is-calm-requires c κs = search needs
+
+none-requires-2 : tie.Need-none-requires-2
+none-requires-2 c κs = search needs
+
+returns-2 : tie.Need-returns-2
+returns-2 c =
+    let asked = c .before in
+    rw (c .none2 .ensures) (not-calm _ _ (sym (asked .before .is-calm .ensures) ∙ not-true (asked .before .is-calm .result) (asked .if2 .taken)))
+
+none-requires-3 : tie.Need-none-requires-3
+none-requires-3 c κs = search needs
+
+returns-3 : tie.Need-returns-3
+returns-3 c = rw (c .none3 .ensures) (too-far _ _ (c .before .if3 .taken))
+
+none-requires-4 : tie.Need-none-requires-4
+none-requires-4 c κs = search needs
+
+returns-4 : tie.Need-returns-4
+returns-4 c = rw (c .none4 .ensures) (not-sized _ _ (c .before .if4 .taken))
+
+none-requires-5 : tie.Need-none-requires-5
+none-requires-5 c κs = search needs
+
+returns-5 : tie.Need-returns-5
+returns-5 c = rw (c .none5 .ensures) (not-fused _ _ (c .before .if5 .taken))
+
+comes-to-requires : tie.Need-comes-to-requires
+comes-to-requires c κs =
+    let sized = c .before in
+    let near = sized .before in
+    let calm = near .before .before in
+    let still = calm .before .before in
+    record {
+      byte = omega (arith, still .before .before .fits);
+      still = still .if1 .left;
+      turns = sym (calm .before .is-calm .ensures) ∙ not-false (calm .before .is-calm .result) (calm .if2 .left);
+      address = near .if3 .left;
+      sized = sized .if4 .left;
+      fused = c .if5 .left;
+    }
+
+returns-6 : tie.Need-returns-6
+returns-6 c = rw (c .comes-to .ensures) (all-passed _ _ (comes-to-requires (c .before) (c .comes-to .lifetimes)))
+
+pub walk-step-spec : {M : Type 1} → statement M
+walk-step-spec =
+    tie.close
+    (tie.spec
+    none-requires
+    returns
+    is-calm-requires
+    none-requires-2
+    returns-2
+    none-requires-3
+    returns-3
+    none-requires-4
+    returns-4
+    none-requires-5
+    returns-5
+    comes-to-requires
+    returns-6)

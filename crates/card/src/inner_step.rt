@@ -1,0 +1,23 @@
+// A step of a card whose state is sound and whose pin is at hand.
+use crate::edges;
+use crate::moved;
+use crate::moved::Left;
+use crate::programming;
+use memory::is_set;
+use volatile::Volatile;
+ghost use Rattle.volatile.specs.Packed.{given};
+ghost use Rattle.card.specs.Moves.{Ready, Leaves};
+
+// While programming is under way image and fuses may change, else they stay.
+pub(crate) fn step(v: Volatile, image: &mut [u8], fuses: u8, pin: u8, n: u32) -> Left
+    requires { ⌜ Ready (given (now image) fuses v) pin ⌝ }
+    ensures { λ r. ⌜ Leaves (given (now (image .entry)) fuses v) pin n r (now (image .exit)) ⌝ }
+{
+    if v.lines ^ n == 4 {
+        if is_set(v.flags, volatile::PROGRAMMING) {
+            return programming::clock(v, image, fuses, pin, n);
+        }
+        return moved::with_fuses(edges::clock(v, image, fuses, pin, n), fuses);
+    }
+    moved::with_fuses(edges::other_than_clock(v, image, fuses, pin, n), fuses)
+}

@@ -1,0 +1,109 @@
+// A walk: CLK rises or falls with VCC on, RST and PGM low, where nothing is compared and nothing comes of an arrival.
+use crate::NO_WALK;
+use crate::Walked;
+use memory::is_set;
+use volatile::Volatile;
+ghost use mathlib.Core.Path.{_≡_};
+ghost use mathlib.Core.Bool.{cond};
+ghost use Prim.Native.Nat.{_<_};
+ghost use Rattle.rules.specs.Steps.{next};
+ghost use Rattle.volatile.specs.Packed.{given, cardOf};
+ghost use Rattle.card.specs.Contracts.{calm, plainAt, walkedHalf, walkTo, noWalk};
+ghost use Rattle.card.specs.Moves.{Shows, Calm};
+
+// What the pin shows: nothing, or the bit.
+pub(crate) const NOTHING: u8 = 0;
+
+pub(crate) const BIT: u8 = 1;
+
+// A compare, an arrival or the table of rights has a say.
+pub(crate) const APART: u8 = 2;
+
+// VCC, RST, PGM and what is no line.
+pub(crate) const STILL: u32 = 203;
+
+// What the pin shows at an address that a walk comes to.
+pub(crate) fn shows(a: u32, flags: u32) -> u8
+    ensures { λ r. ⌜ Shows a flags r ⌝ }
+{
+    if a < 176 {
+        if a < 80 {
+            return BIT;
+        }
+        if a < 105 {
+            return APART;
+        }
+        return BIT;
+    }
+    if a < 1199 {
+        if a < 178 {
+            return APART;
+        }
+        if flags & 5 != 0 {
+            return BIT;
+        }
+        return NOTHING;
+    }
+    if a < 1361 {
+        if a < 1233 {
+            return APART;
+        }
+        if a < 1360 {
+            return BIT;
+        }
+        return APART;
+    }
+    if a < 1392 {
+        return BIT;
+    }
+    if a < 1520 {
+        return NOTHING;
+    }
+    APART
+}
+
+// CLK alone turns over, and of the flags above R1 none is set, or the latch alone and CLK high.
+pub(crate) fn is_calm(v: Volatile, n: u32) -> bool
+    ensures { λ r. ⌜ r ≡ calm v n ⌝ }
+{
+    let above = v.flags / 8;
+    (v.lines ^ n == 4) & ((above == 0) | (above == (v.lines & 4) / 2))
+}
+
+// No walk: the half as it came.
+pub(crate) fn none(v: Volatile) -> Walked
+    ensures { λ r. ⌜ r ≡ noWalk v ⌝ }
+{
+    Walked {
+        volatile: v,
+        pin: NO_WALK,
+    }
+}
+
+// CLK rises or falls.
+pub(crate) fn clocks(v: Volatile, n: u32) -> Volatile
+    requires { ⌜ v .address < 1519 ⌝ }
+    ensures { λ r. ⌜ r ≡ walkedHalf v n ⌝ }
+{
+    if is_set(n, volatile::CLK) {
+        return v.clock_rises(n);
+    }
+    v.goes_on(n, v.address + 1)
+}
+
+// The half after a walk, and the pin, or no walk after all.
+pub(crate) fn comes_to(v: Volatile, image: &[u8], fuses: u8, n: u32) -> Walked
+    requires { ⌜ Calm (given (now image) fuses v) n ⌝ }
+    ensures { λ r. ⌜ r ≡ cond (plainAt (walkedHalf v n .address)) (walkTo (next (cardOf (given (now (image .entry)) fuses v)) n)) (noWalk v) ⌝ }
+{
+    let next = clocks(v, n);
+    let shown = shows(next.address, next.flags);
+    if shown == APART {
+        return none(v);
+    }
+    let bit = memory::read_bit(image, next.address as usize);
+    Walked {
+        volatile: next,
+        pin: volatile::pin_value(shown == BIT, bit),
+    }
+}
