@@ -3,16 +3,16 @@ use Prim.Native.Nat.{ℕ, suc, _≤_, _<_}
 use mathlib.Core.Path.{_≡_, refl, sym, _∙_}
 use mathlib.Core.Bool.{Bool, true, false, cond}
 use mathlib.Core.List.{List}
-use native.Mathlib.Nat.{zero-add, lt-irrefl}
+use native.Mathlib.Nat.{lt-irrefl}
 use native.Mathlib.Omega.{arith}
 use borrow.Author.Tests.{lt-ltb, le-ltb, eq-eqb, ne-eqb, eqb-false, ltb-false}
 use lib.Dec.{eqb, ltb, eqb·suc-zero}
 use lib.ListN.{length}
+use Rattle.memory.specs.Buffer.{Put}
+use Rattle.memory.proofs.Buffer.{whole, at-start}
 use Rattle.rules.specs.Maker.{actRefusal}
 use Rattle.maker.specs.declared.Made.the-variants.{Wrote, Refused}
 use Rattle.maker.specs.Act.{made, inBuffer, Acted}
-use Rattle.maker.specs.Placed.{Placed}
-use Rattle.maker.proofs.Placing.{placed-first}
 
 module _ (refused : ℕ) (steps l : List ℕ) where
   module _ (k : ℕ) (e : k ≡ actRefusal refused steps (length l)) where
@@ -29,10 +29,11 @@ module _ (refused : ℕ) (steps l : List ℕ) where
         go true true p q = absurd (lt-irrefl 0 (omega (arith, q)))
         go false u p q = absurd (eqb-false refused 0 p q)
 
-    pub wrote-by : k ≡ 0 → {r : ℕ} {m : List ℕ} → Placed l 0 steps r m → Acted refused steps l (Wrote r) m
+    pub wrote-by : k ≡ 0 → {r : ℕ} {m : List ℕ} → Put l 0 steps r m → Acted refused steps l (Wrote r) m
     unfolding made inBuffer
     wrote-by z p =
-        record { answer = rw (← e, eq-eqb k 0 z, p .place, zero-add) refl; bytes = rw (p .place, zero-add) (placed-first p (roomy z)) }
+        let n = whole (roomy z) p in
+        record { answer = rw (← e, eq-eqb k 0 z, n) refl; bytes = rw n (at-start (roomy z) p) }
 
   -- 21
   pub barred : (k : ℕ) → refused ≡ suc k → Acted refused steps l (Refused (suc k)) l
@@ -45,6 +46,6 @@ module _ (refused : ℕ) (steps l : List ℕ) where
     unfolding actRefusal
     short h = refused-by 22 (rw (e, counted, lt-ltb _ _ h) refl) (omega arith)
 
-    pub wrote : {r : ℕ} {m : List ℕ} → n ≤ length l → Placed l 0 steps r m → Acted refused steps l (Wrote r) m
+    pub wrote : {r : ℕ} {m : List ℕ} → n ≤ length l → Put l 0 steps r m → Acted refused steps l (Wrote r) m
     unfolding actRefusal
     wrote h p = wrote-by 0 (rw (e, counted, le-ltb _ _ h) refl) refl p

@@ -3,7 +3,7 @@ use mathlib.Core.Path.{refl}
 use Rattle.memory.specs.Image.{digit}
 use Rattle.rules.specs.Maker.{reset, walk, show, program, blow, open-card, walkRefusal, openRefusal}
 use Rattle.maker.specs.Act.{numberOf, countOf, made, inBuffer}
-use Rattle.maker.specs.Placed.{pulse, shownBit}
+use Rattle.maker.specs.Parts.{pulse, shownBit}
 use Rattle.maker.specs.Cases.{Acts-make, Answers-told, Parts-made}
 
 pub acts-make : Acts-make
@@ -30,4 +30,4 @@ answers-told = (refl, refl, refl, refl, refl)
 
 pub parts-made : Parts-made
 unfolding digit reset walk show program pulse shownBit
-parts-made = (record { place = refl; bytes = refl }, refl, refl, refl, refl, refl, refl, refl, refl)
+parts-made = (refl, refl, refl, refl, refl, refl, refl, refl)

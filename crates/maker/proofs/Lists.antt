@@ -10,7 +10,7 @@ use lib.Dec.{eqb, ltb}
 use Rattle.memory.proofs.Laws.{digit-shift}
 use Rattle.rules.specs.Maker.{reset, walk, show, zerosBefore, open-card, actRefusal, openRefusal}
 use Rattle.rules.proofs.MakerLaws.{length-open}
-use Rattle.maker.specs.Placed.{pulse, shownBit, upToCode, useTry}
+use Rattle.maker.specs.Parts.{pulse, shownBit, upToCode, useTry}
 use Rattle.maker.proofs.Zeros.{leading-zeros}
 
 less-one : (n : ℕ) → suc n - 1 ≡ n

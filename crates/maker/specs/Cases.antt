@@ -11,7 +11,7 @@ use Rattle.rules.specs.Maker.{reset, walk, program, blow, open-card, walkRefusa
 use Rattle.rules.specs.CaseForms.{L1, L2, code}
 use Rattle.maker.specs.declared.Made.the-variants.{Wrote, Refused}
 use Rattle.maker.specs.Act.{numberOf, countOf, Acted}
-use Rattle.maker.specs.Placed.{Placed, pulse, shownBit, upToCode, useTry}
+use Rattle.maker.specs.Parts.{pulse, shownBit, upToCode, useTry}
 
 abbrev pub Acts-make : Type 0
 Acts-make =
@@ -45,7 +45,6 @@ Answers-told =
 -- What the acts are made of.
 abbrev pub Parts-made : Type 0
 Parts-made =
-    Placed (70 ∷ 71 ∷ 72 ∷ 73 ∷ []) 1 (5 ∷ 6 ∷ []) 3 (70 ∷ 5 ∷ 6 ∷ 73 ∷ []) ×
     -- "RST up, down"
     (pulse (mask RST) L1 ≡ 51 ∷ 49 ∷ []) ×
     -- "per bit set I/O, CLK up, down"

@@ -1,3 +1,3 @@
 pub mod Act
-pub mod Placed
+pub mod Parts
 pub mod Cases

@@ -1,7 +1,8 @@
-// The line levels of the maker's steps.
+// The line levels of the maker's steps, and the short lists of them that the acts are made of.
 ghost use Prim.Native.Nat.{_≤_};
 ghost use mathlib.Core.Path.{_≡_};
-ghost use Rattle.rules.specs.Maker.{base as baseOf, io as ioOf, idle as idleOf};
+ghost use Rattle.rules.specs.Maker.{base as baseOf, io as ioOf, idle as idleOf, programWith, blow as blowOf};
+ghost use Rattle.maker.specs.Parts.{pulse as pulseOf, shownBit};
 
 const VCC: u8 = 1;
 
@@ -9,7 +10,7 @@ pub(crate) const RST: u8 = 2;
 
 pub(crate) const CLK: u8 = 4;
 
-pub(crate) const PGM: u8 = 8;
+const PGM: u8 = 8;
 
 const IO: u8 = 16;
 
@@ -34,4 +35,45 @@ pub(crate) fn idle(fus: bool) -> u8
     ensures { λ r. ⌜ r ≤ 49 ⌝ }
 {
     base(fus) + IO
+}
+
+// A line up, down: reset's RST, and CLK at each address of a walk.
+pub(crate) fn pulse(line: u8, fus: bool) -> [u8; 2]
+    requires { ⌜ line ≤ 4 ⌝ }
+    ensures { λ r. ⌜ r ≡ pulseOf line fus ⌝ }
+{
+    let idle = idle(fus);
+    [idle + line, idle]
+}
+
+pub(crate) fn bit(fus: bool, b: bool) -> [u8; 3]
+    ensures { λ r. ⌜ r ≡ shownBit fus b ⌝ }
+{
+    let level = base(fus) + io(b);
+    [level, level + CLK, level]
+}
+
+pub(crate) fn program(extra: u8, fus: bool, d: bool) -> [u8; 6]
+    requires { ⌜ extra ≤ 2 ⌝ }
+    ensures { λ r. ⌜ r ≡ programWith extra fus d ⌝ }
+{
+    let idle = idle(fus) + extra;
+    let base = base(fus) + extra;
+    let io = io(d);
+    [
+        idle + PGM,
+        base + PGM + io,
+        base + PGM + CLK + io,
+        base + CLK + io,
+        idle + CLK,
+        idle,
+    ]
+}
+
+pub(crate) fn blow(fus: bool) -> [u8; 8]
+    ensures { λ r. ⌜ r ≡ blowOf fus ⌝ }
+{
+    let idle = idle(fus);
+    let p = program(RST, fus, false);
+    [idle + RST, p[0], p[1], p[2], p[3], p[4], p[5], idle]
 }

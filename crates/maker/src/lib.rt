@@ -17,23 +17,21 @@ pub enum Made {
     Refused(u8),
 }
 
-// Steps that no act makes, as they are.
+// Steps as they are: those that no act makes, and the acts of a fixed length.
 pub fn raw(steps: &[u8], out: &mut [u8]) -> Made
     ensures { λ r. ⌜ Acted 0 (now (steps .entry)) (now (out .entry)) r (now (out .exit)) ⌝ }
 {
     if out.len() < steps.len() {
         return Made::Refused(22);
     }
-    Made::Wrote(parts::place(steps, out, 0))
+    Made::Wrote(memory::put(out, 0, steps))
 }
 
 pub fn reset(fus: bool, out: &mut [u8]) -> Made
     ensures { λ r. ⌜ Acted 0 (resetSteps fus) (now (out .entry)) r (now (out .exit)) ⌝ }
 {
-    if out.len() < 2 {
-        return Made::Refused(22);
-    }
-    Made::Wrote(parts::put_pulse(RST, fus, out, 0))
+    let steps = levels::pulse(RST, fus);
+    raw(&steps, out)
 }
 
 pub fn walk(fus: bool, n: usize, out: &mut [u8]) -> Made
@@ -73,19 +71,15 @@ pub fn show32(fus: bool, key: u32, out: &mut [u8]) -> Made
 pub fn program(fus: bool, d: bool, out: &mut [u8]) -> Made
     ensures { λ r. ⌜ Acted 0 (programSteps fus d) (now (out .entry)) r (now (out .exit)) ⌝ }
 {
-    if out.len() < 6 {
-        return Made::Refused(22);
-    }
-    Made::Wrote(parts::put_program(0, fus, d, out, 0))
+    let steps = levels::program(0, fus, d);
+    raw(&steps, out)
 }
 
 pub fn blow(fus: bool, out: &mut [u8]) -> Made
     ensures { λ r. ⌜ Acted 0 (blowSteps fus) (now (out .entry)) r (now (out .exit)) ⌝ }
 {
-    if out.len() < 8 {
-        return Made::Refused(22);
-    }
-    Made::Wrote(parts::put_blow(fus, out, 0))
+    let steps = levels::blow(fus);
+    raw(&steps, out)
 }
 
 // "Refused in order": 23 comes before 22.
@@ -108,5 +102,6 @@ pub fn open(fus: bool, code: u16, attempts: u8, out: &mut [u8]) -> Made
     if refused != 0 {
         return Made::Refused(refused);
     }
-    Made::Wrote(parts::put_open(fus, code, k, out, 0))
+    let shown = parts::put_code(fus, code, out);
+    Made::Wrote(parts::put_try(fus, k, out, shown))
 }

@@ -1,4 +1,4 @@
--- What a write, an erase and a fill do to each bit of the image.
+-- What a write and an erase do to each bit of the image, and what a fill leaves.
 use Prim.Native.Nat.{ℕ, zero, suc, _+_, _-_, _*_, _/_, _%_, _^_, _≤_, _<_}
 use native.Mathlib.Nat.{div-one, div-div-eq-div-mul, pow-suc, mul-comm}
 use native.Mathlib.Omega.{arith}
@@ -9,8 +9,8 @@ use mathlib.Core.List.{List, _++_}
 use lib.Dec.{eqb, ltb, leb, eqb·zero-suc, eqb·suc-zero, eqb·suc-suc}
 use lib.Bits.{bitAnd}
 use lib.ListN.{length, getD, set, take, drop, replicate, length-set, length-append, length-drop, length-replicate}
-use lib.ListN.{getD-replicate, List·getD-append, List·getD-eq-default}
-use lib.Seq.{getD-set-same, getD-set-other, set-out, getD-take, getD-drop, getD-append-add, length-take-le, drop-drop}
+use lib.ListN.{List·getD-eq-default}
+use lib.Seq.{getD-set-same, getD-set-other, set-out, length-take-le, drop-drop}
 use borrow.Author.Tests.{lt-ltb, le-ltb, le-leb, lt-leb, eq-eqb, ne-eqb, eqb-true, leb-true}
 use Rattle.memory.proofs.Below.{all, below}
 use Rattle.memory.specs.Image.{digit, cleared, bit, written, erasedWord, filled}
@@ -67,18 +67,22 @@ same-bit a b h = go (ℕ-discrete a b)
 
 pub bit-written : (m : List ℕ) (a b : ℕ) → bit (written m a) b ≡ (not (eqb a b) && bit m b)
 unfolding bit written
-bit-written m a b = rw (getD-set m (a / 8) (cleared (7 - a % 8) (getD m (a / 8) 0)) (b / 8)) (go (ℕ-discrete (a / 8) (b / 8)) (decLt (b / 8) (length m)))
+bit-written m a b =
+    rw (getD-set m (a / 8) (cleared (7 - a % 8) (getD m (a / 8) 0)) (b / 8))
+    (go (ℕ-discrete (a / 8) (b / 8)) (decLt (b / 8) (length m)))
   where
     go :
         Dec (a / 8 ≡ b / 8) → Dec (b / 8 < length m) →
-        digit (7 - b % 8) (cond (eqb (a / 8) (b / 8) && ltb (b / 8) (length m)) (cleared (7 - a % 8) (getD m (a / 8) 0)) (getD m (b / 8) 0)) ≡
+        digit (7 - b % 8)
+        (cond (eqb (a / 8) (b / 8) && ltb (b / 8) (length m)) (cleared (7 - a % 8) (getD m (a / 8) 0)) (getD m (b / 8) 0)) ≡
         (not (eqb a b) && digit (7 - b % 8) (getD m (b / 8) 0))
     go (yes e) (yes h) =
         rw (eq-eqb (a / 8) (b / 8) e, lt-ltb (b / 8) (length m) h, ← same-bit a b e, ← e)
         (digit-cleared (7 - a % 8) (7 - b % 8) (getD m (a / 8) 0))
     go (yes e) (no h) =
         let out : length m ≤ b / 8 = omega arith in
-        rw (eq-eqb (a / 8) (b / 8) e, le-ltb (b / 8) (length m) out, List·getD-eq-default m 0 out, digit-zero (7 - b % 8)) (nothing (eqb a b))
+        rw (eq-eqb (a / 8) (b / 8) e, le-ltb (b / 8) (length m) out, List·getD-eq-default m 0 out, digit-zero (7 - b % 8))
+        (nothing (eqb a b))
       where
         nothing : (t : Bool) → false ≡ (not t && false)
         nothing true = refl
@@ -141,62 +145,6 @@ pub length-erased : (m : List ℕ) (a : ℕ) → length (erasedWord m a) ≡ len
 unfolding erasedWord
 length-erased m a = simp length-set
 
-module _ (first count v : ℕ) (m : List ℕ) (fits : first + count ≤ length m) where
-  part-length : length (take first m) ≡ first
-  part-length = length-take-le first m (omega arith)
-
-  opened : filled first count v m ≡ take first m ++ (replicate count v ++ drop (first + count) m)
-  unfolding filled
-  opened = rw (le-leb (first + count) (length m) fits)
-
-  abbrev rest : List ℕ
-  rest = replicate count v ++ drop (first + count) m
-
-  -- What stands at a place of a filled image.
-  getD-filled : (j : ℕ) → getD (filled first count v m) j 0 ≡ cond (leb first j && ltb j (first + count)) v (getD m j 0)
-  getD-filled j = rw opened (go (decLt j first) (decLt j (first + count)))
-    where
-      at : first ≤ j → getD (take first m ++ rest) j 0 ≡ getD rest (j - first) 0
-      at h =
-          let e : j ≡ length (take first m) + (j - first) = omega (arith, part-length) in
-          ap (λ (x : ℕ). getD (take first m ++ rest) x 0) e ∙ getD-append-add (take first m) rest (j - first) 0
-
-      go :
-          Dec (j < first) → Dec (j < first + count) →
-          getD (take first m ++ (replicate count v ++ drop (first + count) m)) j 0 ≡
-          cond (leb first j && ltb j (first + count)) v (getD m j 0)
-      go (yes h) d =
-          rw (lt-leb first j h)
-          (List·getD-append (take first m) rest 0 j (omega (arith, part-length)) ∙ getD-take first m j 0 h)
-      go (no h) (yes k) =
-          let low : first ≤ j = omega arith in
-          let inside : j - first < length (replicate count v) = omega (arith, length-replicate count v) in
-          rw (le-leb first j low, lt-ltb j (first + count) k)
-          (at low ∙ (List·getD-append (replicate count v) (drop (first + count) m) 0 (j - first) inside ∙
-          getD-replicate count (j - first) v 0 (omega arith)))
-      go (no h) (no k) =
-          let low : first ≤ j = omega arith in
-          let past : first + count ≤ j = omega arith in
-          let e : j - first ≡ length (replicate count v) + (j - (first + count)) = omega (arith, length-replicate count v) in
-          let f : first + count + (j - (first + count)) ≡ j = omega arith in
-          rw (le-leb first j low, le-ltb j (first + count) past)
-          (at low ∙ (ap (λ (x : ℕ). getD rest x 0) e ∙
-          (getD-append-add (replicate count v) (drop (first + count) m) (j - (first + count)) 0 ∙
-          (getD-drop (first + count) m (j - (first + count)) 0 ∙ ap (λ (x : ℕ). getD m x 0) f))))
-
-  pub bit-filled :
-      (b : ℕ) →
-      bit (filled first count v m) b ≡
-      cond (leb first (b / 8) && ltb (b / 8) (first + count)) (digit (7 - b % 8) v) (bit m b)
-  unfolding bit
-  bit-filled b = rw (getD-filled (b / 8)) (go (leb first (b / 8) && ltb (b / 8) (first + count)))
-    where
-      go :
-          (t : Bool) →
-          digit (7 - b % 8) (cond t v (getD m (b / 8) 0)) ≡ cond t (digit (7 - b % 8) v) (digit (7 - b % 8) (getD m (b / 8) 0))
-      go true = refl
-      go false = refl
-
 pub length-filled : (first count v : ℕ) (m : List ℕ) → length (filled first count v m) ≡ length m
 unfolding filled
 length-filled first count v m = go (leb (first + count) (length m)) refl
@@ -232,6 +180,12 @@ pub one-small : (a : ℕ) → 128 / 2 ^ (a % 8) ≤ 255
 unfolding all
 one-small a =
     leb-true (128 / 2 ^ (a % 8)) 255 (below 8 (λ (j : ℕ). leb (128 / 2 ^ j) 255) refl (a % 8) (omega arith))
+
+opened :
+    (first count v : ℕ) (m : List ℕ) → first + count ≤ length m →
+    filled first count v m ≡ take first m ++ (replicate count v ++ drop (first + count) m)
+unfolding filled
+opened first count v m fits = rw (le-leb (first + count) (length m) fits)
 
 -- A part that is lent and comes back full of v, in its place.
 pub put-filled :

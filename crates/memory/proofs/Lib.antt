@@ -1,3 +1,4 @@
 pub mod Below
 pub mod Laws
+pub mod Buffer
 pub mod Determined

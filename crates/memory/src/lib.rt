@@ -1,7 +1,8 @@
-// The leaves on a lent image. A byte past its end reads 0, and a store there does nothing.
+// The leaves on a lent image, and bytes put into a lent buffer. A byte past the end reads 0, and a store there does nothing.
 ghost use mathlib.Core.Path.{_≡_};
 ghost use lib.ListN.{length, replicate, set};
 ghost use Rattle.memory.specs.Image.{digit, bit, written, erasedWord, filled};
+ghost use Rattle.memory.specs.Buffer.{Put};
 
 // Binary digit k of x.
 pub fn is_set(x: u32, k: u32) -> bool
@@ -72,4 +73,21 @@ pub fn fill_part(image: &mut [u8], first: usize, count: usize, v: u8)
             fill(&mut image[first..first + count], v);
         }
     }
+}
+
+// The bytes from `at` on, as far as there is room, and the place behind them.
+pub fn put(out: &mut [u8], at: usize, bytes: &[u8]) -> usize
+    ensures { λ r. ⌜ Put (now (out .entry)) at (now (bytes .entry)) r (now (out .exit)) ⌝ }
+{
+    let mut next = at;
+    let mut taken = 0;
+    while taken < bytes.len() {
+        if out.len() <= next {
+            return next;
+        }
+        out[next] = bytes[taken];
+        next += 1;
+        taken += 1;
+    }
+    next
 }

@@ -6,12 +6,6 @@ use borrow.Author.Needs.{needs}
 use Rattle.maker.proofs.open_refusal.Statement.{statement}
 use Rattle.maker.proofs.open_refusal.Tie as tie
 
-mul-count : tie.Need-mul-count
-mul-count c = search needs
-
-add-count : tie.Need-add-count
-add-count c = search needs
-
 returns : tie.Need-returns
 returns c =
     let a = c .before .args in
@@ -28,4 +22,4 @@ returns-3 c =
     rw (ne-eqb (a .k) 8 (omega arith), le-ltb (a .room) (223 + 2 * a .k) (omega arith)) refl
 
 pub open-refusal-spec : {M : Type 1} → statement M
-open-refusal-spec = tie.close (tie.spec mul-count add-count returns returns-2 returns-3)
+open-refusal-spec = tie.close (tie.spec (λ c. search needs) (λ c. search needs) returns returns-2 returns-3)

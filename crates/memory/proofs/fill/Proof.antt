@@ -20,12 +20,6 @@ loop-holds c = (refl, omega arith, refl)
 slice-write-part : tie.Need-slice-write-part Inv-loop μ-loop
 slice-write-part c = c .loop-test .taken
 
-add-i : tie.Need-add-i Inv-loop μ-loop
-add-i c = omega arith
-
-loop-less : tie.Need-loop-less Inv-loop μ-loop
-loop-less c = omega arith
-
 loop-again : tie.Need-loop-again Inv-loop μ-loop
 loop-again c =
     let at = c .before .loop in
@@ -46,12 +40,4 @@ pub fill-spec : {M : Type 1} → statement M
 fill-spec =
     tie.close
     (tie.spec
-    Inv-loop
-    μ-loop
-    loop-holds
-    slice-write-part
-    add-i
-    loop-less
-    loop-again
-    same-length
-    returns)
+    Inv-loop μ-loop loop-holds slice-write-part (λ c. omega arith) (λ c. omega arith) loop-again same-length returns)

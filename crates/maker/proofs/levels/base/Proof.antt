@@ -4,9 +4,6 @@ use Rattle.rules.specs.Maker.{base}
 use Rattle.maker.proofs.levels.base.Statement.{statement}
 use Rattle.maker.proofs.levels.base.Tie as tie
 
-add-result : tie.Need-add-result
-add-result c = search needs
-
 returns : tie.Need-returns
 unfolding base
 returns c = (rw (c .if1 .taken) refl, search needs)
@@ -16,4 +13,4 @@ unfolding base
 returns-2 c = (rw (c .if1 .left) refl, search needs)
 
 pub base-spec : {M : Type 1} → statement M
-base-spec = tie.close (tie.spec add-result returns returns-2)
+base-spec = tie.close (tie.spec (λ c. search needs) returns returns-2)

@@ -3,15 +3,9 @@ use Rattle.rules.specs.Maker.{idle}
 use Rattle.maker.proofs.levels.idle.Statement.{statement}
 use Rattle.maker.proofs.levels.idle.Tie as tie
 
-base-requires : tie.Need-base-requires
-base-requires c κs = search needs
-
-add-result : tie.Need-add-result
-add-result c = search needs
-
 returns : tie.Need-returns
 unfolding idle
 returns c = (rw (c .base .ensures .0), search needs)
 
 pub idle-spec : {M : Type 1} → statement M
-idle-spec = tie.close (tie.spec base-requires add-result returns)
+idle-spec = tie.close (tie.spec (λ c κs. search needs) (λ c. search needs) returns)

@@ -1,21 +1,9 @@
--- What the acts share: steps written at a place of the buffer.
-use Prim.Native.Nat.{ℕ, _+_, _≤_}
-use mathlib.Core.Path.{_≡_}
+-- What the acts are made of.
+use Prim.Native.Nat.{ℕ, _+_}
 use mathlib.Core.Bool.{Bool, true, false}
 use mathlib.Core.List.{List, [], _∷_, _++_}
-use lib.ListN.{length}
-use lib.Seq.{sets}
 use Rattle.rules.specs.Lines.{CLK, mask}
 use Rattle.rules.specs.Maker.{base, io, idle, reset, walk, show, program}
-
--- The steps stand in the buffer from `at` on, all other bytes are as before, and r is the place after the steps.
-pub record Placed (before : List ℕ) (at : ℕ) (steps : List ℕ) (r : ℕ) (after : List ℕ) : Type 0 where
-  pub place : r ≡ at + length steps
-  pub bytes : after ≡ sets before at steps
-
--- The buffer has room for the steps from `at` on.
-pub record Room (buffer : List ℕ) (at : ℕ) (steps : List ℕ) : Type 0 where
-  pub fits : at + length steps ≤ length buffer
 
 -- A line "up, down".
 unfoldable pub pulse : ℕ → Bool → List ℕ

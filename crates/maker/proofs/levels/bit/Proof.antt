@@ -1,0 +1,12 @@
+use borrow.Author.Needs.{needs}
+use Rattle.maker.specs.Parts.{shownBit}
+use Rattle.maker.proofs.levels.bit.Statement.{statement}
+use Rattle.maker.proofs.levels.bit.Tie as tie
+
+returns : tie.Need-returns
+unfolding shownBit
+returns c = rw (c .before .base .ensures .0, c .io .ensures .0)
+
+pub bit-spec : {M : Type 1} → statement M
+bit-spec =
+    tie.close (tie.spec (λ c κs. search needs) (λ c κs. search needs) (λ c. search needs) (λ c. search needs) returns)

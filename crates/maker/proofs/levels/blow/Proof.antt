@@ -1,0 +1,15 @@
+use borrow.Author.Needs.{needs}
+use Rattle.rules.specs.Maker.{programWith, blow}
+use Rattle.maker.proofs.levels.blow.Statement.{statement}
+use Rattle.maker.proofs.levels.blow.Tie as tie
+
+returns : tie.Need-returns
+unfolding blow programWith
+returns c = rw (c .before .idle .ensures .0, c .program .ensures)
+
+pub blow-spec : {M : Type 1} → statement M
+blow-spec =
+    tie.close
+    (tie.spec
+    (λ c κs. search needs) (λ c κs. search needs) (λ c. search needs) (λ c. search needs) (λ c. search needs)
+    (λ c. search needs) (λ c. search needs) (λ c. search needs) (λ c. search needs) returns)
