@@ -4,7 +4,7 @@ use libc::STDIN_FILENO;
 use libc::STDOUT_FILENO;
 ghost use mathlib.Core.Path.{_≡_};
 ghost use lib.ListN.{length};
-ghost use Rattle.report.specs.Buffer.{Put};
+ghost use Rattle.memory.specs.Buffer.{Put};
 ghost use Rattle.console.specs.Told.{toldLine};
 ghost use Rattle.console.specs.Ends.{outcome, Part, Taken, NotLost, Said, stopped, ended};
 
@@ -32,11 +32,11 @@ pub enum Output {
 fn put_told(out: &mut [u8], program: &[u8], what: &[u8], which: &[u8]) -> usize
     ensures { λ r. ⌜ Put (now (out .entry)) 0 (toldLine (now (program .entry)) (now (what .entry)) (now (which .entry))) r (now (out .exit)) ⌝ }
 {
-    let after_program = report::put(out, 0, program);
-    let after_colon = report::put(out, after_program, b": ");
-    let after_what = report::put(out, after_colon, what);
-    let after_which = report::put(out, after_what, which);
-    report::put(out, after_which, b"\n")
+    let after_program = memory::put(out, 0, program);
+    let after_colon = memory::put(out, after_program, b": ");
+    let after_what = memory::put(out, after_colon, what);
+    let after_which = memory::put(out, after_what, which);
+    memory::put(out, after_which, b"\n")
 }
 
 // In one write, so that the lines of two programs don't mix. A line over 80 bytes is cut.

@@ -1,10 +1,10 @@
--- Demand 1: two answers that a text's contract or a writer's allows coincide, with every lent byte.
+-- Demand 1: two answers that a text's contract allows coincide, with every lent byte.
 use Prim.Native.Nat.{ℕ}
 use mathlib.Core.Path.{_≡_}
 use mathlib.Core.List.{List}
 use Rattle.memory.proofs.Determined.{determined}
 use Rattle.report.specs.declared.Text.{Text}
-use Rattle.report.specs.Buffer.{Made, Put}
+use Rattle.report.specs.Buffer.{Made}
 
 pub text-determined :
     (text before : List ℕ) (r r′ : Text) (after after′ : List ℕ) → Made text before r after → Made text before r′ after′ →
@@ -12,8 +12,3 @@ pub text-determined :
 text-determined text before r r′ after after′ p q =
     let same = determined (p .answered) (q .answered) in
     (same, cc (p .lent, q .lent, same))
-
-pub put-determined :
-    (before : List ℕ) (at : ℕ) (bytes : List ℕ) (next next′ : ℕ) (after after′ : List ℕ) → Put before at bytes next after →
-    Put before at bytes next′ after′ → (next ≡ next′) × (after ≡ after′)
-put-determined before at bytes next next′ after after′ p q = (determined (p .place) (q .place), determined (p .stored) (q .stored))

@@ -1,11 +1,10 @@
 -- A text in a lent buffer.
-use Prim.Native.Nat.{ℕ, _+_, _-_, _≤_, min}
+use Prim.Native.Nat.{ℕ, _≤_}
 use mathlib.Core.Path.{_≡_}
 use mathlib.Core.Bool.{cond}
 use mathlib.Core.List.{List, _++_}
 use lib.Dec.{ltb}
 use lib.ListN.{length, drop}
-use lib.Seq.{sets}
 use Rattle.report.specs.declared.Text.{Text}
 use Rattle.report.specs.declared.Text.the-variants.{Wrote, TooSmall}
 
@@ -26,8 +25,3 @@ pub record Made (text before : List ℕ) (answer : Text) (after : List ℕ) : Ty
 -- So much room is enough: a buffer that has it is not too small.
 unfoldable pub Enough : ℕ → ℕ → Text → Type 0
 Enough enough room answer = enough ≤ room → answer ≡ TooSmall → ⊥
-
--- The promise of a writer: the bytes stored one by one from a place on, as many as there is room for, and the place behind them.
-pub record Put (before : List ℕ) (at : ℕ) (bytes : List ℕ) (next : ℕ) (after : List ℕ) : Type 0 where
-  pub place : next ≡ at + min (length bytes) (length before - at)
-  pub stored : after ≡ sets before at bytes

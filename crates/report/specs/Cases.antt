@@ -8,13 +8,14 @@ use mathlib.Core.Path.{_≡_}
 use mathlib.Core.List.{List, [], _∷_, map}
 use lib.Count.{onesIn}
 use lib.ListN.{replicate, set}
+use Rattle.memory.specs.Buffer.{Put}
 use Rattle.rules.specs.Card.{Ran, checkedRun, triesLeft}
 use Rattle.rules.specs.Demands.{freshCard}
 use Rattle.rules.specs.CaseForms.{none, cardAt, image, sample}
 use Rattle.report.specs.declared.Text.the-variants.{Wrote, TooSmall}
 use Rattle.report.specs.Decimal.{digit, digitsWithin, decimal}
 use Rattle.report.specs.Lines.{numbered, line, answersLine, badText, fourLines}
-use Rattle.report.specs.Buffer.{Made, Enough, Put}
+use Rattle.report.specs.Buffer.{Made, Enough}
 use Rattle.report.specs.Session.{reported}
 
 -- The bytes of a quoted text.

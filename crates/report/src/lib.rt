@@ -1,23 +1,17 @@
 // Texts made in a lent buffer: the writers of their parts, and the session program's.
 ghost use mathlib.Core.Path.{_≡_};
-ghost use mathlib.Core.List.{_∷_, []};
+ghost use mathlib.Core.List.{_∷_, [], _++_};
 ghost use Prim.Native.Nat.{_≤_, min};
 ghost use lib.ListN.{length, take};
+ghost use Rattle.memory.specs.Buffer.{Put};
 ghost use Rattle.report.specs.Decimal.{digit, decimal};
-ghost use Rattle.report.specs.Lines.{numbered, line, answersLine, badText, fourLines};
-ghost use Rattle.report.specs.Buffer.{Made, Put};
+ghost use Rattle.report.specs.Lines.{doneWord, ofWord, refusedWord, numbered, line, answersLine, badText, fourLines};
+ghost use Rattle.report.specs.Buffer.{Made};
 
 // The result of making a text: so many bytes written, or no room for them and the buffer as it was.
 pub enum Text {
     Wrote(usize),
     TooSmall,
-}
-
-// The last decimal digit of x, as a byte.
-fn digit_of(x: usize) -> u8
-    ensures { λ r. ⌜ r ≡ digit x ⌝ }
-{
-    48 + (x % 10) as u8
 }
 
 // How many digits x has.
@@ -33,47 +27,31 @@ fn places(x: usize) -> usize
     n
 }
 
-// The writer of all parts: one byte, if there is room, and the place behind it.
-fn put_byte(out: &mut [u8], at: usize, byte: u8) -> usize
-    ensures { λ r. ⌜ Put (now (out .entry)) at (byte ∷ []) r (now (out .exit)) ⌝ }
+// The last decimal digit of x.
+fn put_digit(out: &mut [u8], at: usize, x: usize) -> usize
+    ensures { λ r. ⌜ Put (now (out .entry)) at (digit x ∷ []) r (now (out .exit)) ⌝ }
 {
-    if out.len() <= at {
-        return at;
-    }
-    out[at] = byte;
-    at + 1
-}
-
-// These bytes, as far as there is room.
-pub fn put(out: &mut [u8], at: usize, bytes: &[u8]) -> usize
-    ensures { λ r. ⌜ Put (now (out .entry)) at (now (bytes .entry)) r (now (out .exit)) ⌝ }
-{
-    let mut next = at;
-    let mut i = 0;
-    while i < bytes.len() {
-        next = put_byte(out, next, bytes[i]);
-        i += 1;
-    }
-    next
+    let one = [48 + (x % 10) as u8];
+    memory::put(out, at, &one)
 }
 
 fn put_decimal(out: &mut [u8], at: usize, x: usize) -> usize
     ensures { λ r. ⌜ Put (now (out .entry)) at (decimal x) r (now (out .exit)) ⌝ }
 {
     if x < 10 {
-        return put_byte(out, at, digit_of(x));
+        return put_digit(out, at, x);
     }
     let front = x / 10;
     let last = x % 10;
     let next = put_decimal(out, at, front);
-    put_byte(out, next, digit_of(last))
+    put_digit(out, next, last)
 }
 
 // A word and a number behind it.
 pub fn put_number(out: &mut [u8], at: usize, word: &[u8], x: usize) -> usize
     ensures { λ r. ⌜ Put (now (out .entry)) at (numbered (now (word .entry)) x) r (now (out .exit)) ⌝ }
 {
-    let next = put(out, at, word);
+    let next = memory::put(out, at, word);
     put_decimal(out, next, x)
 }
 
@@ -81,7 +59,7 @@ fn put_line(out: &mut [u8], at: usize, word: &[u8], x: usize) -> usize
     ensures { λ r. ⌜ Put (now (out .entry)) at (line (now (word .entry)) x) r (now (out .exit)) ⌝ }
 {
     let end = put_number(out, at, word, x);
-    put(out, end, b"\n")
+    memory::put(out, end, b"\n")
 }
 
 fn lesser(a: usize, b: usize) -> usize
@@ -98,10 +76,10 @@ fn put_answers(out: &mut [u8], at: usize, answers: &[u8], done: usize) -> usize
     let mut next = at;
     let mut i = 0;
     while i < count {
-        next = put_byte(out, next, digit_of(answers[i] as usize));
+        next = put_digit(out, next, answers[i] as usize);
         i += 1;
     }
-    put(out, next, b"\n")
+    memory::put(out, next, b"\n")
 }
 
 // `bad N`, a line.
@@ -126,6 +104,15 @@ fn lines_length(done: usize, given: usize, refusal: u8, answers: &[u8], left: u3
     26 + numbers + count
 }
 
+// The lines before the answers.
+fn put_counts(out: &mut [u8], done: usize, given: usize, refusal: u8) -> usize
+    ensures { λ r. ⌜ Put (now (out .entry)) 0 (numbered doneWord done ++ (line ofWord given ++ line refusedWord refusal)) r (now (out .exit)) ⌝ }
+{
+    let after_done = put_number(out, 0, b"done ", done);
+    let after_given = put_line(out, after_done, b" of ", given);
+    put_line(out, after_given, b"refused ", refusal as usize)
+}
+
 fn put_lines(
     out: &mut [u8],
     done: usize,
@@ -136,9 +123,7 @@ fn put_lines(
 ) -> usize
     ensures { λ r. ⌜ Put (now (out .entry)) 0 (fourLines done given refusal (now (answers .entry)) left) r (now (out .exit)) ⌝ }
 {
-    let after_done = put_number(out, 0, b"done ", done);
-    let after_given = put_line(out, after_done, b" of ", given);
-    let after_refused = put_line(out, after_given, b"refused ", refusal as usize);
+    let after_refused = put_counts(out, done, given, refusal);
     let after_answers = put_answers(out, after_refused, answers, done);
     put_line(out, after_answers, b"left ", left as usize)
 }

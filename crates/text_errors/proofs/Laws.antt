@@ -1,4 +1,4 @@
--- How long an error's line can be.
+-- The words of a reason, and how long an error's line can be.
 use Prim.Native.Nat.{ℕ, _≤_, _<_, _^_, max}
 use Prim.Native.String.{String}
 use native.Mathlib.Omega.{arith}
@@ -8,9 +8,16 @@ use mathlib.Core.List.{List, [], _∷_}
 use lib.Dec.{eqb}
 use lib.ListN.{length, length-append}
 use Rattle.words.specs.Names.{bytesOf}
+use Rattle.memory.specs.Buffer.{Put}
 use Rattle.report.proofs.Digits.{few-digits, at-most-twenty}
 use Rattle.report.proofs.Lengths.{length-numbered}
 use Rattle.text_errors.specs.ErrorLine.{table, wordsIn, words, errorLine, enough}
+
+-- The words of a row are those of the reason that has its number.
+pub in-row :
+    {l m : List ℕ} {at n reason number : ℕ} (rows : List (ℕ × String)) → reason ≡ number →
+    Put l at (bytesOf (wordsIn rows number)) n m → Put l at (bytesOf (wordsIn rows reason)) n m
+in-row rows e p = rw e p
 
 -- The longest words of some rows.
 unfoldable longest : List (ℕ × String) → ℕ

@@ -6,23 +6,8 @@ use Rattle.report.proofs.Lengths.{length-bad}
 use Rattle.report.proofs.bad.Statement.{statement}
 use Rattle.report.proofs.bad.Tie as tie
 
-places-requires : tie.Need-places-requires
-places-requires c κs = search needs
-
-add-total : tie.Need-add-total
-add-total c = search needs
-
 returns : tie.Need-returns
 returns c = too-small (omega (arith, length-bad (c .before .before .before .args .number)))
-
-slice-aggregate-put-line : tie.Need-slice-aggregate-put-line
-slice-aggregate-put-line c = search needs
-
-put-line-requires : tie.Need-put-line-requires
-put-line-requires c κs = search needs
-
-same-length : tie.Need-same-length
-same-length c = search needs
 
 returns-2 : tie.Need-returns-2
 unfolding badText
@@ -34,10 +19,5 @@ pub bad-spec : {M : Type 1} → statement M
 bad-spec =
     tie.close
     (tie.spec
-    places-requires
-    add-total
-    returns
-    slice-aggregate-put-line
-    put-line-requires
-    same-length
+    (λ c κs. search needs) (λ c. search needs) returns (λ c. search needs) (λ c κs. search needs) (λ c. search needs)
     returns-2)

@@ -14,16 +14,10 @@ Inv-loop x n₀ rest₀ n rest = n + length (decimal rest) ≡ 1 + length (decim
 abbrev μ-loop : tie.MeasureT-loop
 μ-loop x n₀ rest₀ n rest = rest
 
-loop-holds : tie.Need-loop-holds Inv-loop μ-loop
-loop-holds c = omega arith
-
 add-n : tie.Need-add-n Inv-loop μ-loop
 add-n c =
     let x = c .before .before .args .x in
     omega (arith, at-most-twenty x (c .before .before .fits .x .fits))
-
-loop-less : tie.Need-loop-less Inv-loop μ-loop
-loop-less c = omega arith
 
 loop-again : tie.Need-loop-again Inv-loop μ-loop
 loop-again c = omega (arith, length-more (c .before .loop .rest) (c .loop-test .taken))
@@ -34,4 +28,4 @@ returns c =
     omega (arith, ap length (one-digit (c .before .loop .rest) (omega arith)), at-most-twenty x (c .before .before .fits .x .fits))
 
 pub places-spec : {M : Type 1} → statement M
-places-spec = tie.close (tie.spec Inv-loop μ-loop loop-holds add-n loop-less loop-again returns)
+places-spec = tie.close (tie.spec Inv-loop μ-loop (λ c. omega arith) add-n (λ c. omega arith) loop-again returns)

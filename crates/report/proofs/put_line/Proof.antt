@@ -1,20 +1,8 @@
 use borrow.Author.Needs.{needs}
+use Rattle.memory.proofs.Buffer.{then}
 use Rattle.report.specs.Lines.{line}
-use Rattle.report.proofs.Laws.{then}
 use Rattle.report.proofs.put_line.Statement.{statement}
 use Rattle.report.proofs.put_line.Tie as tie
-
-put-number-requires : tie.Need-put-number-requires
-put-number-requires c κs = search needs
-
-slice-aggregate-put : tie.Need-slice-aggregate-put
-slice-aggregate-put c = search needs
-
-put-requires : tie.Need-put-requires
-put-requires c κs = search needs
-
-same-length : tie.Need-same-length
-same-length c = search needs
 
 returns : tie.Need-returns
 unfolding line
@@ -22,4 +10,4 @@ returns c = then (c .before .before .before .before .before .before .before .put
 
 pub put-line-spec : {M : Type 1} → statement M
 put-line-spec =
-    tie.close (tie.spec put-number-requires slice-aggregate-put put-requires same-length returns)
+    tie.close (tie.spec (λ c κs. search needs) (λ c. search needs) (λ c κs. search needs) (λ c. search needs) returns)

@@ -4,7 +4,8 @@ use mathlib.Core.Path.{_≡_, sym}
 use lib.ListN.{length}
 use lib.Seq.{length-take-le}
 use borrow.Author.Needs.{needs}
-use Rattle.report.proofs.Laws.{whole, read-back, made, too-small, never-small}
+use Rattle.memory.proofs.Buffer.{whole, read-back}
+use Rattle.report.proofs.Laws.{made, too-small, never-small}
 use Rattle.text_errors.specs.ErrorLine.{errorLine, enough}
 use Rattle.text_errors.proofs.Laws.{not-long}
 use Rattle.text_errors.proofs.error_line.Statement.{statement}
@@ -14,33 +15,22 @@ use Rattle.text_errors.proofs.error_line.Tie as tie
 fits : (c : tie.Start) → length (errorLine (c .args .line) (c .args .reason)) ≤ enough
 fits c = not-long _ _ (c .fits .line .fits) (omega (arith, c .fits))
 
-count : (c : tie.After-put-line) → c .put-line .result ≡ length (errorLine (c .before .before .before .args .line) (c .before .before .before .args .reason))
+count :
+    (c : tie.After-put-line) →
+    let args = c .before .before .before .args in
+    c .put-line .result ≡ length (errorLine (args .line) (args .reason))
 count c = whole (fits (c .before .before .before)) (c .put-line .ensures)
-
-slice-aggregate-put-line : tie.Need-slice-aggregate-put-line
-slice-aggregate-put-line c = search needs
-
-put-line-requires : tie.Need-put-line-requires
-put-line-requires c κs = search needs
 
 returns : tie.Need-returns
 returns c =
     let start = c .before .before .before .before .before in
-    let less : length (start .args .out .now) < length (errorLine (start .args .line) (start .args .reason)) = omega (arith, count (c .before .before)) in
+    let line = errorLine (start .args .line) (start .args .reason) in
+    let less : length (start .args .out .now) < length line = omega (arith, count (c .before .before)) in
     let small = too-small less in
     (small, never-small (fits start) small)
 
-array-share-prefix-text : tie.Need-array-share-prefix-text
-array-share-prefix-text c = search needs
-
 slice-aggregate-put : tie.Need-slice-aggregate-put
 slice-aggregate-put c = sym (length-take-le _ _ (omega (arith, c .before .before .before .before .put-line .kept .0)))
-
-put-requires : tie.Need-put-requires
-put-requires c κs = search needs
-
-same-length : tie.Need-same-length
-same-length c = search needs
 
 returns-2 : tie.Need-returns-2
 returns-2 c =
@@ -54,11 +44,5 @@ pub error-line-spec : {M : Type 1} → statement M
 error-line-spec =
     tie.close
     (tie.spec
-    slice-aggregate-put-line
-    put-line-requires
-    returns
-    array-share-prefix-text
-    slice-aggregate-put
-    put-requires
-    same-length
-    returns-2)
+    (λ c. search needs) (λ c κs. search needs) returns (λ c. search needs) slice-aggregate-put (λ c κs. search needs)
+    (λ c. search needs) returns-2)

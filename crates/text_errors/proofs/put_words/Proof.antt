@@ -1,211 +1,41 @@
 use borrow.Author.Needs.{needs}
 use borrow.Author.Tests.{ne-eqb}
 use Rattle.words.specs.Names.{bytesOf}
-use Rattle.text_errors.specs.ErrorLine.{table, wordsIn, words}
+use Rattle.text_errors.specs.ErrorLine.{table, wordsIn}
+use Rattle.text_errors.proofs.Laws.{in-row}
 use Rattle.text_errors.proofs.put_words.Statement.{statement}
 use Rattle.text_errors.proofs.put_words.Tie as tie
 
-slice-aggregate-put : tie.Need-slice-aggregate-put
-slice-aggregate-put c = search needs
-
-put-requires : tie.Need-put-requires
-put-requires c κs = search needs
-
-slice-aggregate-put-2 : tie.Need-slice-aggregate-put-2
-slice-aggregate-put-2 c = search needs
-
-put-requires-2 : tie.Need-put-requires-2
-put-requires-2 c κs = search needs
-
-slice-aggregate-put-3 : tie.Need-slice-aggregate-put-3
-slice-aggregate-put-3 c = search needs
-
-put-requires-3 : tie.Need-put-requires-3
-put-requires-3 c κs = search needs
-
-slice-aggregate-put-4 : tie.Need-slice-aggregate-put-4
-slice-aggregate-put-4 c = search needs
-
-put-requires-4 : tie.Need-put-requires-4
-put-requires-4 c κs = search needs
-
-slice-aggregate-put-5 : tie.Need-slice-aggregate-put-5
-slice-aggregate-put-5 c = search needs
-
-put-requires-5 : tie.Need-put-requires-5
-put-requires-5 c κs = search needs
-
-slice-aggregate-put-6 : tie.Need-slice-aggregate-put-6
-slice-aggregate-put-6 c = search needs
-
-put-requires-6 : tie.Need-put-requires-6
-put-requires-6 c κs = search needs
-
-slice-aggregate-put-7 : tie.Need-slice-aggregate-put-7
-slice-aggregate-put-7 c = search needs
-
-put-requires-7 : tie.Need-put-requires-7
-put-requires-7 c κs = search needs
-
-slice-aggregate-put-8 : tie.Need-slice-aggregate-put-8
-slice-aggregate-put-8 c = search needs
-
-put-requires-8 : tie.Need-put-requires-8
-put-requires-8 c κs = search needs
-
-slice-aggregate-put-9 : tie.Need-slice-aggregate-put-9
-slice-aggregate-put-9 c = search needs
-
-put-requires-9 : tie.Need-put-requires-9
-put-requires-9 c κs = search needs
-
-slice-aggregate-put-10 : tie.Need-slice-aggregate-put-10
-slice-aggregate-put-10 c = search needs
-
-put-requires-10 : tie.Need-put-requires-10
-put-requires-10 c κs = search needs
-
-slice-aggregate-put-11 : tie.Need-slice-aggregate-put-11
-slice-aggregate-put-11 c = search needs
-
-put-requires-11 : tie.Need-put-requires-11
-put-requires-11 c κs = search needs
-
-same-length : tie.Need-same-length
-same-length c = search needs
-
-returns : tie.Need-returns
-unfolding words wordsIn table bytesOf
-returns c = rw (c .before .before .before .before .before .match .keys1) (c .before .before .put .ensures)
-
-same-length-2 : tie.Need-same-length-2
-same-length-2 c = search needs
-
-returns-2 : tie.Need-returns-2
-unfolding words wordsIn table bytesOf
-returns-2 c = rw (c .before .before .before .before .before .match .keys2) (c .before .before .put2 .ensures)
-
-same-length-3 : tie.Need-same-length-3
-same-length-3 c = search needs
-
-returns-3 : tie.Need-returns-3
-unfolding words wordsIn table bytesOf
-returns-3 c = rw (c .before .before .before .before .before .match .keys3) (c .before .before .put3 .ensures)
-
-same-length-4 : tie.Need-same-length-4
-same-length-4 c = search needs
-
-returns-4 : tie.Need-returns-4
-unfolding words wordsIn table bytesOf
-returns-4 c = rw (c .before .before .before .before .before .match .keys4) (c .before .before .put4 .ensures)
-
-same-length-5 : tie.Need-same-length-5
-same-length-5 c = search needs
-
-returns-5 : tie.Need-returns-5
-unfolding words wordsIn table bytesOf
-returns-5 c = rw (c .before .before .before .before .before .match .keys5) (c .before .before .put5 .ensures)
-
-same-length-6 : tie.Need-same-length-6
-same-length-6 c = search needs
-
-returns-6 : tie.Need-returns-6
-unfolding words wordsIn table bytesOf
-returns-6 c = rw (c .before .before .before .before .before .match .keys6) (c .before .before .put6 .ensures)
-
-same-length-7 : tie.Need-same-length-7
-same-length-7 c = search needs
-
-returns-7 : tie.Need-returns-7
-unfolding words wordsIn table bytesOf
-returns-7 c = rw (c .before .before .before .before .before .match .keys7) (c .before .before .put7 .ensures)
-
-same-length-8 : tie.Need-same-length-8
-same-length-8 c = search needs
-
-returns-8 : tie.Need-returns-8
-unfolding words wordsIn table bytesOf
-returns-8 c = rw (c .before .before .before .before .before .match .keys8) (c .before .before .put8 .ensures)
-
-same-length-9 : tie.Need-same-length-9
-same-length-9 c = search needs
-
-returns-9 : tie.Need-returns-9
-unfolding words wordsIn table bytesOf
-returns-9 c = rw (c .before .before .before .before .before .match .keys9) (c .before .before .put9 .ensures)
-
-same-length-10 : tie.Need-same-length-10
-same-length-10 c = search needs
-
-returns-10 : tie.Need-returns-10
-unfolding words wordsIn table bytesOf
-returns-10 c = rw (c .before .before .before .before .before .match .keys10) (c .before .before .put10 .ensures)
-
-same-length-11 : tie.Need-same-length-11
-same-length-11 c = search needs
-
-returns-11 : tie.Need-returns-11
-unfolding words wordsIn table bytesOf
-returns-11 c =
-    let rest = c .before .before .before .before .before .match .rest in
-    simp (
-      ne-eqb _ _ (rest .0 .0 .0 .0 .0 .0 .0 .0 .0 .1),
-      ne-eqb _ _ (rest .0 .0 .0 .0 .0 .0 .0 .0 .1),
-      ne-eqb _ _ (rest .0 .0 .0 .0 .0 .0 .0 .1),
-      ne-eqb _ _ (rest .0 .0 .0 .0 .0 .0 .1),
-      ne-eqb _ _ (rest .0 .0 .0 .0 .0 .1),
-      ne-eqb _ _ (rest .0 .0 .0 .0 .1),
-      ne-eqb _ _ (rest .0 .0 .0 .1),
-      ne-eqb _ _ (rest .0 .0 .1),
-      ne-eqb _ _ (rest .0 .1),
-      ne-eqb _ _ (rest .1),
-    ) (c .before .before .put11 .ensures)
+others : tie.Need-returns-7
+unfolding wordsIn table
+others c =
+    let other = c .before .before .before .before .match .rest in
+    rw (
+      ne-eqb _ _ (other .0 .0 .0 .0 .0 .1),
+      ne-eqb _ _ (other .0 .0 .0 .0 .1),
+      ne-eqb _ _ (other .0 .0 .0 .1),
+      ne-eqb _ _ (other .0 .0 .1),
+      ne-eqb _ _ (other .0 .1),
+      ne-eqb _ _ (other .1),
+    ) (c .before .before .put-further-words .ensures)
 
 pub put-words-spec : {M : Type 1} → statement M
+unfolding wordsIn table bytesOf
 put-words-spec =
     tie.close
     (tie.spec
-    slice-aggregate-put
-    put-requires
-    slice-aggregate-put-2
-    put-requires-2
-    slice-aggregate-put-3
-    put-requires-3
-    slice-aggregate-put-4
-    put-requires-4
-    slice-aggregate-put-5
-    put-requires-5
-    slice-aggregate-put-6
-    put-requires-6
-    slice-aggregate-put-7
-    put-requires-7
-    slice-aggregate-put-8
-    put-requires-8
-    slice-aggregate-put-9
-    put-requires-9
-    slice-aggregate-put-10
-    put-requires-10
-    slice-aggregate-put-11
-    put-requires-11
-    same-length
-    returns
-    same-length-2
-    returns-2
-    same-length-3
-    returns-3
-    same-length-4
-    returns-4
-    same-length-5
-    returns-5
-    same-length-6
-    returns-6
-    same-length-7
-    returns-7
-    same-length-8
-    returns-8
-    same-length-9
-    returns-9
-    same-length-10
-    returns-10
-    same-length-11
-    returns-11)
+    (λ c. search needs) (λ c κs. search needs) (λ c. search needs) (λ c κs. search needs) (λ c. search needs)
+    (λ c κs. search needs) (λ c. search needs) (λ c κs. search needs) (λ c. search needs) (λ c κs. search needs)
+    (λ c. search needs) (λ c κs. search needs) (λ c κs. search needs) (λ c. search needs)
+    (λ c. in-row table (c .before .before .before .before .before .match .keys1) (c .before .before .put .ensures))
+    (λ c. search needs)
+    (λ c. in-row table (c .before .before .before .before .before .match .keys2) (c .before .before .put2 .ensures))
+    (λ c. search needs)
+    (λ c. in-row table (c .before .before .before .before .before .match .keys3) (c .before .before .put3 .ensures))
+    (λ c. search needs)
+    (λ c. in-row table (c .before .before .before .before .before .match .keys4) (c .before .before .put4 .ensures))
+    (λ c. search needs)
+    (λ c. in-row table (c .before .before .before .before .before .match .keys5) (c .before .before .put5 .ensures))
+    (λ c. search needs)
+    (λ c. in-row table (c .before .before .before .before .before .match .keys6) (c .before .before .put6 .ensures))
+    (λ c. search needs) others)

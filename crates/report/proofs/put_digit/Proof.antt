@@ -1,0 +1,14 @@
+use borrow.Author.Needs.{needs}
+use Rattle.report.specs.Decimal.{digit}
+use Rattle.report.proofs.put_digit.Statement.{statement}
+use Rattle.report.proofs.put_digit.Tie as tie
+
+returns : tie.Need-returns
+unfolding digit
+returns c = c .before .before .put .ensures
+
+pub put-digit-spec : {M : Type 1} → statement M
+put-digit-spec =
+    tie.close
+    (tie.spec
+    (λ c. search needs) (λ c. search needs) (λ c. search needs) (λ c κs. search needs) (λ c. search needs) returns)

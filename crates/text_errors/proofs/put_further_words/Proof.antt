@@ -1,0 +1,32 @@
+use borrow.Author.Needs.{needs}
+use borrow.Author.Tests.{ne-eqb}
+use lib.ListN.{drop}
+use Rattle.words.specs.Names.{bytesOf}
+use Rattle.text_errors.specs.ErrorLine.{table, wordsIn}
+use Rattle.text_errors.proofs.Laws.{in-row}
+use Rattle.text_errors.proofs.put_further_words.Statement.{statement}
+use Rattle.text_errors.proofs.put_further_words.Tie as tie
+
+others : tie.Need-returns-5
+unfolding wordsIn table bytesOf
+others c =
+    let other = c .before .before .before .before .before .match .rest in
+    rw (ne-eqb _ _ (other .0 .0 .0 .1), ne-eqb _ _ (other .0 .0 .1), ne-eqb _ _ (other .0 .1), ne-eqb _ _ (other .1))
+    (c .before .before .put5 .ensures)
+
+pub put-further-words-spec : {M : Type 1} → statement M
+unfolding wordsIn table bytesOf
+put-further-words-spec =
+    tie.close
+    (tie.spec
+    (λ c. search needs) (λ c κs. search needs) (λ c. search needs) (λ c κs. search needs) (λ c. search needs)
+    (λ c κs. search needs) (λ c. search needs) (λ c κs. search needs) (λ c. search needs) (λ c κs. search needs)
+    (λ c. search needs)
+    (λ c. in-row (drop 6 table) (c .before .before .before .before .before .match .keys1) (c .before .before .put .ensures))
+    (λ c. search needs)
+    (λ c. in-row (drop 6 table) (c .before .before .before .before .before .match .keys2) (c .before .before .put2 .ensures))
+    (λ c. search needs)
+    (λ c. in-row (drop 6 table) (c .before .before .before .before .before .match .keys3) (c .before .before .put3 .ensures))
+    (λ c. search needs)
+    (λ c. in-row (drop 6 table) (c .before .before .before .before .before .match .keys4) (c .before .before .put4 .ensures))
+    (λ c. search needs) others)
