@@ -13,9 +13,9 @@ use Rattle.rules.specs.File.{count, fuseSection, stepCount, partsRefusal, cardR
 use Rattle.rules.proofs.Tests.{peel}
 
 chain :
-    (a b c d e : Bool) (more : ℕ)
-    → cond a 10 (cond b 11 (cond c 12 (cond d 13 (cond e 14 more))))
-    ≡ cond (eqb (cond a 10 (cond b 11 (cond c 12 (cond d 13 (cond e 14 0))))) 0) more (cond a 10 (cond b 11 (cond c 12 (cond d 13 (cond e 14 0)))))
+    (a b c d e : Bool) (more : ℕ) →
+    let first : ℕ = cond a 10 (cond b 11 (cond c 12 (cond d 13 (cond e 14 0)))) in
+    cond a 10 (cond b 11 (cond c 12 (cond d 13 (cond e 14 more)))) ≡ cond (eqb first 0) more first
 chain true b c d e more = refl
 chain false true c d e more = refl
 chain false false true d e more = refl
@@ -56,15 +56,15 @@ ends false k e = absurd (not-suc-le-zero (le-of-eq e))
 whole : (file : List ℕ) (room more : ℕ) → partsRefusal file room more ≡ 0 → Whole file room × (more ≡ 0)
 unfolding partsRefusal
 whole file room more e =
-    let p10 = peel (not (eqb room bytes)) 9 _ e in
-    let p11 = peel (ltb (length file) 179) 10 _ (p10 .1) in
+    let p10 = peel _ 9 _ e in
+    let p11 = peel _ 10 _ (p10 .1) in
     let p12 = peel (not (eqb (count file 0) bytes)) 11 _ (p11 .1) in
     let p13 = peel (not (eqb (count file 176) 1)) 12 _ (p12 .1) in
-    let p14 = peel (ltb 7 (fuseSection file)) 13 more (p13 .1) in (
+    let p14 = peel _ 13 _ (p13 .1) in (
       record {
-        sized = eqb-true room bytes (not-false _ (p10 .0));
-        long = ltb-false (length file) 179 (p11 .0);
-        fused = ltb-false 7 (fuseSection file) (p14 .0);
+        sized = eqb-true _ _ (not-false _ (p10 .0));
+        long = ltb-false _ _ (p11 .0);
+        fused = ltb-false _ _ (p14 .0);
       },
       p14 .1,
     )
@@ -78,9 +78,5 @@ unfolding sessionRefusal
 whole-session file room e =
     let w = whole file room _ e in
     let p15 = peel (ltb (length file) 181) 14 _ (w .1) in
-    let p16 = peel (ltb longest (stepCount file)) 15 _ (p15 .1) in
-    record {
-      parts = w .0;
-      few = ltb-false longest (stepCount file) (p16 .0);
-      counted = eqb-true (length file) (181 + stepCount file) (ends (eqb (length file) (181 + stepCount file)) 16 (p16 .1));
-    }
+    let p16 = peel _ 15 _ (p15 .1) in
+    record { parts = w .0; few = ltb-false _ _ (p16 .0); counted = eqb-true _ _ (ends _ 16 (p16 .1)) }

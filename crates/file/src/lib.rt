@@ -1,5 +1,8 @@
 // The openers of a card file and of a session: "Opening answers either the parts or a number."
 ghost use Rattle.file.specs.Opening.{CardOpened, SessionOpened, Handed};
+use sections::FUSES;
+use sections::STEP_COUNT;
+use sections::STEPS;
 
 mod sections;
 
@@ -21,7 +24,7 @@ pub fn open_card(file: &[u8], memory: &mut [u8]) -> CardFile
         return CardFile::Refused(refused);
     }
     sections::copy_memory(file, memory);
-    CardFile::Card { fuses: file[178] }
+    CardFile::Card { fuses: file[FUSES] }
 }
 
 pub fn open_session(file: &[u8], memory: &mut [u8]) -> Session
@@ -33,8 +36,8 @@ pub fn open_session(file: &[u8], memory: &mut [u8]) -> Session
     }
     sections::copy_memory(file, memory);
     Session::Parts {
-        fuses: file[178],
-        steps: sections::count(file, 179),
+        fuses: file[FUSES],
+        steps: sections::count(file, STEP_COUNT),
     }
 }
 
@@ -46,6 +49,6 @@ pub fn step_section(file: &[u8], room: usize) -> &[u8]
     if sections::session_refusal(file, room) != 0 {
         return &file[0..0];
     }
-    let end = 181 + sections::count(file, 179);
-    &file[181..end]
+    let end = STEPS + sections::count(file, STEP_COUNT);
+    &file[STEPS..end]
 }

@@ -11,18 +11,6 @@ use borrow.Author.Needs.{needs}
 use Rattle.file.proofs.step_section.Statement.{statement}
 use Rattle.file.proofs.step_section.Tie as tie
 
-session-refusal-requires : tie.Need-session-refusal-requires
-session-refusal-requires c κs = search needs
-
-sub-result : tie.Need-sub-result
-sub-result c = search needs
-
-part-result-start : tie.Need-part-result-start
-part-result-start c = search needs
-
-part-result-end : tie.Need-part-result-end
-part-result-end c = search needs
-
 returns : tie.Need-returns
 unfolding handedSteps handedFrom
 returns c =
@@ -38,15 +26,6 @@ less a n = omega arith
 
 count-requires : tie.Need-count-requires
 count-requires c κs = omega (arith, sound c .counted)
-
-add-end : tie.Need-add-end
-add-end c = search needs
-
-sub-result-2 : tie.Need-sub-result-2
-sub-result-2 c = search needs
-
-part-result-start-2 : tie.Need-part-result-start-2
-part-result-start-2 c = search needs
 
 part-result-end-2 : tie.Need-part-result-end-2
 unfolding stepCount
@@ -69,14 +48,5 @@ pub step-section-spec : {M : Type 1} → statement M
 step-section-spec =
     tie.close
     (tie.spec
-    session-refusal-requires
-    sub-result
-    part-result-start
-    part-result-end
-    returns
-    count-requires
-    add-end
-    sub-result-2
-    part-result-start-2
-    part-result-end-2
-    returns-2)
+    (λ c κs. search needs) (λ c. search needs) (λ c. search needs) (λ c. search needs) returns count-requires
+    (λ c. search needs) (λ c. search needs) (λ c. search needs) part-result-end-2 returns-2)

@@ -1,75 +1,55 @@
 -- A return for each refusal, in 01's order: the tests before it passed, its own did not.
-use mathlib.Core.Path.{refl}
+use mathlib.Core.Path.{_≡_, refl}
+use mathlib.Core.Bool.{cond, not}
 use native.Mathlib.Omega.{arith}
 use borrow.Author.Needs.{needs}
 use borrow.Author.Tests.{lt-ltb, le-ltb, eq-eqb, ne-eqb}
 use denote.Ref.{now}
-use lib.ListN.{length}
-use Rattle.memory.specs.Image.{bytes}
-use Rattle.rules.specs.File.{count, fuseSection, partsRefusal}
+use lib.Dec.{eqb, ltb}
+use Rattle.rules.specs.File.{fuseSection, partsRefusal}
 use Rattle.file.proofs.sections.parts_refusal.Statement.{statement}
 use Rattle.file.proofs.sections.parts_refusal.Tie as tie
 
-returns : tie.Need-returns
+first-count : tie.Need-returns-3
 unfolding partsRefusal
-returns c =
-    let a = c .before .before .args in
-    rw (ne-eqb (a .room) bytes (omega arith)) refl
+first-count c =
+    let long = c .before .before in
+    rw (eq-eqb _ _ (long .before .if1 .left), le-ltb _ _ (long .if2 .left), ← c .before .count .ensures .0, ne-eqb _ _ (c .if3 .taken))
 
-returns-2 : tie.Need-returns-2
+-- With the first count right, the second and the fuses are left to test.
+counted :
+    (c : tie.After-count2) →
+    let args = c .before .before .before .before .before .before .args in
+    partsRefusal (now (args .file)) (args .room) 0 ≡
+    cond (not (eqb (c .count2 .result) 1)) 13 (cond (ltb 7 (fuseSection (now (args .file)))) 14 0)
 unfolding partsRefusal
-returns-2 c =
-    let a = c .before .before .before .args in
-    let f = now (a .file) in
-    rw (eq-eqb (a .room) bytes (omega arith), lt-ltb (length f) 179 (omega arith)) refl
+counted c =
+    let first = c .before in
+    let long = first .before .before in
+    rw (
+      eq-eqb _ _ (long .before .if1 .left),
+      le-ltb _ _ (long .if2 .left),
+      ← first .before .count .ensures .0,
+      eq-eqb _ _ (first .if3 .left),
+      ← c .count2 .ensures .0,
+    )
 
-count-requires : tie.Need-count-requires
-count-requires c κs = search needs
-
-returns-3 : tie.Need-returns-3
+none : tie.Need-returns-6
 unfolding partsRefusal
-returns-3 c =
-    let a = c .before .before .before .before .before .args in
-    let f = now (a .file) in
-    rw (eq-eqb (a .room) bytes (omega arith), le-ltb (length f) 179 (omega arith), ne-eqb (count f 0) bytes (omega arith)) refl
-
-count-requires-2 : tie.Need-count-requires-2
-count-requires-2 c κs = search needs
-
-returns-4 : tie.Need-returns-4
-unfolding partsRefusal
-returns-4 c =
-    let a = c .before .before .before .before .before .before .before .args in
-    let f = now (a .file) in
-    rw (eq-eqb (a .room) bytes (omega arith), le-ltb (length f) 179 (omega arith), eq-eqb (count f 0) bytes (omega arith), ne-eqb (count f 176) 1 (omega arith)) refl
-
-shared-slice-read-if5 : tie.Need-shared-slice-read-if5
-shared-slice-read-if5 c = search needs
-
-returns-5 : tie.Need-returns-5
-unfolding partsRefusal
-returns-5 c =
-    let a = c .before .before .before .before .before .before .before .before .before .args in
-    let f = now (a .file) in
-    rw (eq-eqb (a .room) bytes (omega arith), le-ltb (length f) 179 (omega arith), eq-eqb (count f 0) bytes (omega arith), eq-eqb (count f 176) 1 (omega arith), lt-ltb 7 (fuseSection f) (omega arith)) refl
-
-returns-6 : tie.Need-returns-6
-unfolding partsRefusal
-returns-6 c =
-    let a = c .before .before .before .before .before .before .before .before .before .args in
-    let f = now (a .file) in
-    rw (eq-eqb (a .room) bytes (omega arith), le-ltb (length f) 179 (omega arith), eq-eqb (count f 0) bytes (omega arith), eq-eqb (count f 176) 1 (omega arith), le-ltb 7 (fuseSection f) (omega arith)) refl
+none c =
+    let second = c .before .before in
+    let f = second .before .before .before .before .before .before .before .args .file .now in
+    rw (counted (second .before), eq-eqb _ _ (second .if4 .left), le-ltb 7 (fuseSection f) (omega arith))
 
 pub parts-refusal-spec : {M : Type 1} → statement M
+unfolding partsRefusal
 parts-refusal-spec =
     tie.close
     (tie.spec
-    returns
-    returns-2
-    count-requires
-    returns-3
-    count-requires-2
-    returns-4
-    shared-slice-read-if5
-    returns-5
-    returns-6)
+    (λ c. rw (ne-eqb _ _ (c .if1 .taken)) refl)
+    (λ c. rw (eq-eqb _ _ (c .before .if1 .left), lt-ltb _ _ (c .if2 .taken)) refl)
+    (λ c κs. search needs) first-count (λ c κs. search needs)
+    (λ c. rw (counted (c .before), ne-eqb _ _ (c .if4 .taken)))
+    (λ c. search needs)
+    (λ c. rw (counted (c .before .before .before), eq-eqb _ _ (c .before .before .if4 .left), lt-ltb _ _ (c .if5 .taken)))
+    none)

@@ -1,64 +1,46 @@
 -- A return for each refusal, in 01's order: the tests before it passed, its own did not.
 use Prim.Native.Nat.{_+_}
-use mathlib.Core.Path.{refl}
+use mathlib.Core.Path.{_≡_, refl}
+use mathlib.Core.Bool.{cond}
 use native.Mathlib.Omega.{arith}
 use borrow.Author.Needs.{needs}
 use borrow.Author.Tests.{lt-ltb, le-ltb, eq-eqb, ne-eqb}
 use denote.Ref.{now}
+use lib.Dec.{eqb, ltb}
 use lib.ListN.{length}
-use Rattle.rules.specs.File.{count, partsRefusal, sessionRefusal}
+use Rattle.rules.specs.File.{sessionRefusal}
 use Rattle.rules.specs.Refusals.{longest}
 use Rattle.file.proofs.Refusals.{parts-first}
 use Rattle.file.proofs.sections.session_refusal.Statement.{statement}
 use Rattle.file.proofs.sections.session_refusal.Tie as tie
 
-parts-refusal-requires : tie.Need-parts-refusal-requires
-parts-refusal-requires c κs = search needs
-
-returns : tie.Need-returns
+-- A session that is long enough: its count and its length are left to test.
+counted :
+    (c : tie.After-count) →
+    let args = c .before .before .before .before .before .args in
+    sessionRefusal (now (args .file)) (args .room) ≡
+    cond (ltb longest (c .count .result)) 16 (cond (eqb (length (now (args .file))) (181 + c .count .result)) 0 17)
 unfolding sessionRefusal
-returns c = rw (parts-first, ← c .before .parts-refusal .ensures, ne-eqb _ _ (c .if1 .taken)) refl
-
-returns-2 : tie.Need-returns-2
-unfolding sessionRefusal
-returns-2 c = rw (parts-first, ← c .before .before .parts-refusal .ensures, eq-eqb _ _ (c .before .if1 .left), lt-ltb _ _ (c .if2 .taken)) refl
-
-count-requires : tie.Need-count-requires
-count-requires c κs = search needs
-
-add-end : tie.Need-add-end
-add-end c = search needs
-
-returns-3 : tie.Need-returns-3
-unfolding sessionRefusal
-returns-3 c =
-    let a = c .before .before .before .before .before .before .args in
-    let f = now (a .file) in
-    rw (parts-first, eq-eqb (partsRefusal f (a .room) 0) 0 (omega arith), le-ltb (length f) 181 (omega arith), lt-ltb longest (count f 179) (omega arith)) refl
-
-returns-4 : tie.Need-returns-4
-unfolding sessionRefusal
-returns-4 c =
-    let a = c .before .before .before .before .before .before .before .args in
-    let f = now (a .file) in
-    rw (parts-first, eq-eqb (partsRefusal f (a .room) 0) 0 (omega arith), le-ltb (length f) 181 (omega arith), le-ltb longest (count f 179) (omega arith), eq-eqb (length f) (181 + count f 179) (omega arith)) refl
-
-returns-5 : tie.Need-returns-5
-unfolding sessionRefusal
-returns-5 c =
-    let a = c .before .before .before .before .before .before .before .args in
-    let f = now (a .file) in
-    rw (parts-first, eq-eqb (partsRefusal f (a .room) 0) 0 (omega arith), le-ltb (length f) 181 (omega arith), le-ltb longest (count f 179) (omega arith), ne-eqb (length f) (181 + count f 179) (omega arith)) refl
+counted c =
+    let long = c .before in
+    let parts = long .before in
+    rw (
+      parts-first,
+      ← parts .before .parts-refusal .ensures,
+      eq-eqb _ _ (parts .if1 .left),
+      le-ltb _ _ (long .if2 .left),
+      ← c .count .ensures .0,
+    )
 
 pub session-refusal-spec : {M : Type 1} → statement M
+unfolding sessionRefusal
 session-refusal-spec =
     tie.close
     (tie.spec
-    parts-refusal-requires
-    returns
-    returns-2
-    count-requires
-    add-end
-    returns-3
-    returns-4
-    returns-5)
+    (λ c κs. search needs)
+    (λ c. rw (parts-first, ← c .before .parts-refusal .ensures, ne-eqb _ _ (c .if1 .taken)) refl)
+    (λ c. rw (parts-first, ← c .before .before .parts-refusal .ensures, eq-eqb _ _ (c .before .if1 .left), lt-ltb _ _ (c .if2 .taken)) refl)
+    (λ c κs. search needs) (λ c. search needs)
+    (λ c. rw (counted (c .before), lt-ltb longest (c .before .count .result) (omega arith)))
+    (λ c. rw (counted (c .before .before), le-ltb _ _ (c .before .if3 .left), eq-eqb _ _ (c .if4 .taken)))
+    (λ c. rw (counted (c .before .before), le-ltb _ _ (c .before .if3 .left), ne-eqb _ _ (c .if4 .left))))
