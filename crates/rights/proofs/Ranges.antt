@@ -46,9 +46,13 @@ unfoldable pub lie-in : ℕ → ℕ → Zone → Bool
 unfolding all zone
 lie-in low count z = all count (λ (k : ℕ). eqb (row z) (row (zone (low + k))))
 
-pub in-range : (low count : ℕ) (z : Zone) → lie-in low count z ≡ true → (a : ℕ) → low ≤ a → a < low + count → z ≡ zone a
+pub record Within (low count a : ℕ) : Type 0 where
+  pub from : low ≤ a
+  pub before : a < low + count
+
+pub in-range : (low count : ℕ) (z : Zone) → lie-in low count z ≡ true → (a : ℕ) → Within low count a → z ≡ zone a
 unfolding lie-in
-in-range low count z t a h k =
+in-range low count z t a w =
     let e : low + (a - low) ≡ a = omega arith in
     row-injective z (zone a)
     (eqb-true (row z) (row (zone a))

@@ -36,7 +36,9 @@ unfolding table
 in-table true r h = within (table true) r h
 in-table false r h = within (table false) r h
 
-after : (rows : List Right) (r : ℕ) → length rows ≤ r → getD others (r - length rows) (right no no no) ≡ getD (rows ++ others) r (right no no no)
+after :
+    (rows : List Right) (r : ℕ) → length rows ≤ r →
+    getD others (r - length rows) (right no no no) ≡ getD (rows ++ others) r (right no no no)
 after rows r h =
     let e : length rows + (r - length rows) ≡ r = omega arith in
     rw e at (sym (getD-append-add rows others (r - length rows) (right no no no)))

@@ -5,12 +5,6 @@ use Rattle.rules.specs.Programming.{asks, barred}
 use Rattle.rights.proofs.asks_of.Statement.{statement}
 use Rattle.rights.proofs.asks_of.Tie as tie
 
-right-of-requires : tie.Need-right-of-requires
-right-of-requires c κs = search needs
-
-row-of-requires : tie.Need-row-of-requires
-row-of-requires c κs = search needs
-
 returns : tie.Need-returns
 unfolding asks
 returns c =
@@ -30,4 +24,4 @@ unfolding asks
 returns-3 c = rw (c .before .right-of .ensures, c .if1 .left)
 
 pub asks-of-spec : {M : Type 1} → statement M
-asks-of-spec = tie.close (tie.spec right-of-requires row-of-requires returns returns-2 returns-3)
+asks-of-spec = tie.close (tie.spec (λ c κs. search needs) (λ c κs. search needs) returns returns-2 returns-3)

@@ -3,12 +3,9 @@ use Rattle.rules.specs.Zones.{isFuse}
 use Rattle.rights.proofs.is_fuse.Statement.{statement}
 use Rattle.rights.proofs.is_fuse.Tie as tie
 
-row-of-requires : tie.Need-row-of-requires
-row-of-requires c κs = search needs
-
 returns : tie.Need-returns
 unfolding isFuse
 returns c = rw (c .row-of .ensures)
 
 pub is-fuse-spec : {M : Type 1} → statement M
-is-fuse-spec = tie.close (tie.spec row-of-requires returns)
+is-fuse-spec = tie.close (tie.spec (λ c κs. search needs) returns)
