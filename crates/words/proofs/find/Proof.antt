@@ -4,18 +4,18 @@ use borrow.Author.Needs.{needs}
 use borrow.Author.Tests.{eq-eqb, ne-eqb}
 use lib.ListN.{length}
 use Rattle.words.specs.Names.{indexOf}
-use Rattle.words.proofs.Scans.{Passed, none-passed, index-counts, at-end, at-stop, one-more}
+use Rattle.words.proofs.Scans.{Underway, begun, counting, index-scans, at-end, at-stop, one-more}
 use Rattle.words.proofs.find.Statement.{statement}
 use Rattle.words.proofs.find.Tie as tie
 
 abbrev Inv-loop : tie.InvT-loop
-Inv-loop x table i₀ i = Passed (indexOf x) table i
+Inv-loop x table i₀ i = Underway (counting (indexOf x)) 0 table i i
 
 abbrev μ-loop : tie.MeasureT-loop
 μ-loop x table i₀ i = length table - i
 
 loop-holds : tie.Need-loop-holds Inv-loop μ-loop
-loop-holds c = none-passed
+loop-holds c = begun
 
 mul-if1 : tie.Need-mul-if1 Inv-loop μ-loop
 mul-if1 c = search needs
@@ -25,7 +25,8 @@ shared-slice-read-if1 c = omega arith
 
 returns : tie.Need-returns Inv-loop μ-loop
 returns c =
-    at-stop (index-counts _) (c .before .before .before .loop .inv) (c .before .before .loop-test .taken) (eq-eqb _ _ (c .if1 .taken))
+    let turn = c .before .before in
+    omega (arith, at-stop (index-scans _) (turn .before .loop .inv) (turn .loop-test .taken) (eq-eqb _ _ (c .if1 .taken)))
 
 add-i : tie.Need-add-i Inv-loop μ-loop
 add-i c = omega arith
@@ -35,10 +36,11 @@ loop-less c = omega arith
 
 loop-again : tie.Need-loop-again Inv-loop μ-loop
 loop-again c =
-    one-more (index-counts _) (c .before .before .before .loop .inv) (c .before .before .loop-test .taken) (ne-eqb _ _ (c .if1 .left))
+    let turn = c .before .before in
+    one-more (index-scans _) (turn .before .loop .inv) (turn .loop-test .taken) (ne-eqb _ _ (c .if1 .left))
 
 returns-2 : tie.Need-returns-2 Inv-loop μ-loop
-returns-2 c = at-end (index-counts _) (c .before .loop .inv) (c .loop-test .left)
+returns-2 c = omega (arith, at-end (index-scans _) (c .before .loop .inv) (c .loop-test .left))
 
 pub find-spec : {M : Type 1} → statement M
 find-spec =

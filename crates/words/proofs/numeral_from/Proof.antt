@@ -1,24 +1,23 @@
 use Prim.Native.Nat.{_-_, _*_, _≤_}
-use mathlib.Core.Path.{_≡_, refl, sym, _∙_}
+use mathlib.Core.Path.{refl}
 use native.Mathlib.Omega.{arith}
 use native.Mathlib.Nat.{mul-le-mul-left}
 use borrow.Author.Needs.{needs}
 use borrow.Author.Tests.{le-leb, lt-leb}
-use denote.Ref.{now}
-use lib.ListN.{length, drop}
+use lib.ListN.{length}
 use Rattle.words.specs.Numbers.{numberFrom}
-use Rattle.words.proofs.Scans.{number-end, number-at}
+use Rattle.words.proofs.Scans.{Underway, begun, number-scans, at-end, at-stop, one-more}
 use Rattle.words.proofs.numeral_from.Statement.{statement}
 use Rattle.words.proofs.numeral_from.Tie as tie
 
 abbrev Inv-loop : tie.InvT-loop
-Inv-loop base w value₀ i₀ value i = (numberFrom base value (drop i w) ≡ numberFrom base 0 w) × (i ≤ length w)
+Inv-loop base w value₀ i₀ value i = Underway (numberFrom base) 0 w value i
 
 abbrev μ-loop : tie.MeasureT-loop
 μ-loop base w value₀ i₀ value i = length w - i
 
 loop-holds : tie.Need-loop-holds Inv-loop μ-loop
-loop-holds c = (refl, omega arith)
+loop-holds c = begun
 
 shared-slice-read-digit : tie.Need-shared-slice-read-digit Inv-loop μ-loop
 shared-slice-read-digit c = omega arith
@@ -31,15 +30,15 @@ cast-d c = omega arith
 
 returns : tie.Need-returns Inv-loop μ-loop
 returns c =
-    let a = c .before .before .before .before .before .before .args in
-    let l = c .before .before .before .before .loop in
-    rw (number-at (now (a .w)) (l .i) (c .before .before .before .loop-test .taken) (a .base) (l .value), ← c .before .digit .ensures .0, le-leb _ _ (c .if1 .taken)) at (l .inv .0)
+    let turn = c .before .before .before in
+    at-stop (number-scans _) (turn .before .loop .inv) (turn .loop-test .taken)
+    (rw (← c .before .digit .ensures .0, le-leb _ _ (c .if1 .taken)) refl)
 
 returns-2 : tie.Need-returns-2 Inv-loop μ-loop
 returns-2 c =
-    let a = c .before .before .before .before .before .before .before .args in
-    let l = c .before .before .before .before .before .loop in
-    rw (number-at (now (a .w)) (l .i) (c .before .before .before .before .loop-test .taken) (a .base) (l .value), ← c .before .before .digit .ensures .0, lt-leb _ _ (c .before .if1 .left), le-leb _ _ (c .if2 .taken)) at (l .inv .0)
+    let turn = c .before .before .before .before in
+    at-stop (number-scans _) (turn .before .loop .inv) (turn .loop-test .taken)
+    (rw (← c .before .before .digit .ensures .0, lt-leb _ _ (c .before .if1 .left), le-leb _ _ (c .if2 .taken)) refl)
 
 -- The product of two variables, bounded for omega.
 scaled :
@@ -62,17 +61,13 @@ loop-less c = omega arith
 
 loop-again : tie.Need-loop-again Inv-loop μ-loop
 loop-again c =
-    let a = c .before .before .before .before .before .before .before .args in
-    let l = c .before .before .before .before .before .loop in (
-      rw (number-at (now (a .w)) (l .i) (c .before .before .before .before .loop-test .taken) (a .base) (l .value), ← c .before .before .digit .ensures .0, lt-leb _ _ (c .before .if1 .left), lt-leb _ _ (c .if2 .left)) at (l .inv .0),
-      omega arith,
-    )
+    let turn = c .before .before .before .before in
+    rw (c .before .before .digit .ensures .0)
+    (one-more (number-scans _) (turn .before .loop .inv) (turn .loop-test .taken)
+    (rw (← c .before .before .digit .ensures .0, lt-leb _ _ (c .before .if1 .left), lt-leb _ _ (c .if2 .left)) refl))
 
 returns-3 : tie.Need-returns-3 Inv-loop μ-loop
-returns-3 c =
-    let a = c .before .before .before .args in
-    let l = c .before .loop in
-    sym (number-end (now (a .w)) (l .i) (c .loop-test .left) (a .base) (l .value)) ∙ l .inv .0
+returns-3 c = at-end (number-scans _) (c .before .loop .inv) (c .loop-test .left)
 
 pub numeral-from-spec : {M : Type 1} → statement M
 numeral-from-spec =

@@ -1,28 +1,23 @@
-use Prim.Native.Nat.{_-_, _≤_}
-use mathlib.Core.Path.{_≡_, refl}
+use Prim.Native.Nat.{_-_}
 use native.Mathlib.Omega.{arith}
 use borrow.Author.Tests.{le-leb, lt-leb}
-use denote.Ref.{now}
-use lib.ListN.{length, drop}
+use lib.ListN.{length}
 use Rattle.words.specs.Names.{packed}
-use Rattle.words.proofs.Scans.{packed-end, packed-at}
+use Rattle.words.proofs.Scans.{Underway, begun, packed-scans, at-end, at-stop, one-more}
 use Rattle.words.proofs.pack.Statement.{statement}
 use Rattle.words.proofs.pack.Tie as tie
 
 abbrev Inv-loop : tie.InvT-loop
-Inv-loop w value₀ i₀ value i = (packed value (drop i w) ≡ packed 1 w) × (i ≤ length w)
+Inv-loop w value₀ i₀ value i = Underway packed 1 w value i
 
 abbrev μ-loop : tie.MeasureT-loop
 μ-loop w value₀ i₀ value i = length w - i
 
 loop-holds : tie.Need-loop-holds Inv-loop μ-loop
-loop-holds c = (refl, omega arith)
+loop-holds c = begun
 
 returns : tie.Need-returns Inv-loop μ-loop
-returns c =
-    let a = c .before .before .before .args in
-    let l = c .before .before .loop in
-    rw (packed-at (now (a .w)) (l .i) (c .before .loop-test .taken) (l .value), le-leb _ _ (c .if1 .taken)) at (l .inv .0)
+returns c = at-stop packed-scans (c .before .before .loop .inv) (c .before .loop-test .taken) (le-leb _ _ (c .if1 .taken))
 
 mul-value : tie.Need-mul-value Inv-loop μ-loop
 mul-value c = omega arith
@@ -44,17 +39,11 @@ loop-less c = omega arith
 
 loop-again : tie.Need-loop-again Inv-loop μ-loop
 loop-again c =
-    let a = c .before .before .before .before .args in
-    let l = c .before .before .before .loop in (
-      rw (packed-at (now (a .w)) (l .i) (c .before .before .loop-test .taken) (l .value), lt-leb _ _ (c .before .if1 .left)) at (l .inv .0),
-      omega arith,
-    )
+    let turn = c .before .before in
+    one-more packed-scans (turn .before .loop .inv) (turn .loop-test .taken) (lt-leb _ _ (c .before .if1 .left))
 
 returns-2 : tie.Need-returns-2 Inv-loop μ-loop
-returns-2 c =
-    let a = c .before .before .args in
-    let l = c .before .loop in
-    rw (packed-end (now (a .w)) (l .i) (c .loop-test .left) (l .value)) at (l .inv .0)
+returns-2 c = at-end packed-scans (c .before .loop .inv) (c .loop-test .left)
 
 pub pack-spec : {M : Type 1} → statement M
 pack-spec =
