@@ -1,3 +1,4 @@
 pub mod Bounds
 pub mod Lines
 pub mod Scans
+pub mod Tests
