@@ -14,18 +14,18 @@ use Rattle.words.specs.declared.Stop.the-variants.{LineEnd}
 pub rest-of : (n : ℕ) (s : List ℕ) → take (length s - n) (drop n s) ≡ drop n s
 rest-of n s = take-all (length s - n) (drop n s) (omega (arith, length-drop n s))
 
-pub lines-first :
-    (s : List ℕ)
-    → linesOf s ≡ upTo LineEnd s ∷ cond (eqb (aheadOf LineEnd s) (length s)) [] (linesOf (drop (suc (aheadOf LineEnd s)) s))
+-- The lines after the first, which has n bytes.
+abbrev pub lines-after : ℕ → List ℕ → List (List ℕ)
+lines-after n s = cond (eqb n (length s)) [] (linesOf (drop (suc n) s))
+
+pub lines-first : (s : List ℕ) → linesOf s ≡ upTo LineEnd s ∷ lines-after (aheadOf LineEnd s) s
 unfolding linesOf joined upTo aheadOf
 lines-first [] = refl
 lines-first (b ∷ s) = go (stopsAt LineEnd b) (lines-first s)
   where
     go :
-        (t : Bool)
-        → linesOf s ≡ take (aheadOf LineEnd s) s ∷ cond (eqb (aheadOf LineEnd s) (length s)) [] (linesOf (drop (suc (aheadOf LineEnd s)) s))
+        (t : Bool) → linesOf s ≡ take (aheadOf LineEnd s) s ∷ lines-after (aheadOf LineEnd s) s
         → cond t ([] ∷ linesOf s) (joined b (linesOf s))
-        ≡ take (cond t 0 (suc (aheadOf LineEnd s))) (b ∷ s)
-        ∷ cond (eqb (cond t 0 (suc (aheadOf LineEnd s))) (suc (length s))) [] (linesOf (drop (suc (cond t 0 (suc (aheadOf LineEnd s)))) (b ∷ s)))
+        ≡ take (cond t 0 (suc (aheadOf LineEnd s))) (b ∷ s) ∷ lines-after (cond t 0 (suc (aheadOf LineEnd s))) (b ∷ s)
     go true e = rw (eqb·zero-suc (length s)) refl
     go false e = rw (eqb·suc-suc (aheadOf LineEnd s) (length s), e) refl
