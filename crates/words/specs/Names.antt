@@ -16,6 +16,7 @@ unfoldable pub packed : ℕ → List ℕ → ℕ
 packed value [] = value
 packed value (b ∷ s) = cond (leb full value) 0 (packed (value * 256 + b) s)
 
+-- The place of the first x in a list, its length if it has none.
 unfoldable pub indexOf : ℕ → List ℕ → ℕ
 indexOf x [] = 0
 indexOf x (y ∷ ys) = cond (eqb y x) 0 (suc (indexOf x ys))
@@ -25,6 +26,7 @@ unfoldable pub bytesOf : String → List ℕ
 bytesOf text.[] = []
 bytesOf (text._∷_ c s) = code c ∷ bytesOf s
 
+-- A quoted name as one number.
 unfoldable pub name : String → ℕ
 unfolding bytesOf packed
 name s = packed 1 (bytesOf s)

@@ -21,6 +21,7 @@ digitOf b =
 abbrev pub limit : ℕ
 limit = 0x1000_0000_0000_0000
 
+-- The digits of a word after those that come to `value`.
 unfoldable pub numberFrom : ℕ → ℕ → List ℕ → Number
 unfolding digitOf
 numberFrom base value [] = Is value

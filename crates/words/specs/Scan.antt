@@ -33,10 +33,11 @@ upTo x s = take (aheadOf x s) s
 unfoldable pub from : Stop → List ℕ → List ℕ
 from x s = drop (aheadOf x s) s
 
--- The first word, empty if there is none, and what stands after it.
+-- The first word, empty if there is none.
 unfoldable pub firstWord : List ℕ → List ℕ
 firstWord s = upTo Blank (from Ink s)
 
+-- What stands after the first word.
 unfoldable pub afterWord : List ℕ → List ℕ
 afterWord s = from Blank (from Ink s)
 

@@ -21,10 +21,10 @@ pub enum Number {
 fn stops(stop: Stop, b: u8) -> bool
     ensures { λ r. ⌜ r ≡ stopsAt stop b ⌝ }
 {
-    let blank = (b == 32) | ((b == 9) | (b == 13));
+    let blank = (b == b' ') | ((b == b'\t') | (b == b'\r'));
     match stop {
-        Stop::LineEnd => b == 10,
-        Stop::Comment => b == 35,
+        Stop::LineEnd => b == b'\n',
+        Stop::Comment => b == b'#',
         Stop::Blank => blank,
         Stop::Ink => !blank,
     }
