@@ -1,6 +1,6 @@
-use borrow.Author.Tests.{eq-eqb, ne-eqb}
-use Rattle.text_lines.specs.Orders.{named}
 use borrow.Author.Needs.{needs}
+use Rattle.words.proofs.Tests.{tests}
+use Rattle.text_lines.specs.Orders.{named}
 use Rattle.text_lines.proofs.named.Statement.{statement}
 use Rattle.text_lines.proofs.named.Tie as tie
 
@@ -9,14 +9,14 @@ either-requires c κs = search needs
 
 returns : tie.Need-returns
 unfolding named
-returns c = simp (eq-eqb _ _ (c .before .if1 .taken)) (c .either .ensures)
+returns c = search (tests, c .either .ensures)
 
 either-requires-2 : tie.Need-either-requires-2
 either-requires-2 c κs = search needs
 
 returns-2 : tie.Need-returns-2
 unfolding named
-returns-2 c = simp (ne-eqb _ _ (c .before .before .if1 .left), eq-eqb _ _ (c .before .if2 .taken)) (c .either2 .ensures)
+returns-2 c = search (tests, c .either2 .ensures)
 
 filling-requires : tie.Need-filling-requires
 filling-requires c κs = search needs
@@ -29,14 +29,14 @@ either-requires-3 c κs = search needs
 
 returns-3 : tie.Need-returns-3
 unfolding named
-returns-3 c = simp (ne-eqb _ _ (c .before .before .before .before .before .if1 .left), ne-eqb _ _ (c .before .before .before .before .if2 .left), eq-eqb _ _ (c .before .before .before .if3 .taken)) (rw (c .before .before .filling .ensures, c .before .filling2 .ensures) at (c .either3 .ensures))
+returns-3 c = search (tests, rw (c .before .before .filling .ensures, c .before .filling2 .ensures) at (c .either3 .ensures))
 
 either-requires-4 : tie.Need-either-requires-4
 either-requires-4 c κs = search needs
 
 returns-4 : tie.Need-returns-4
 unfolding named
-returns-4 c = simp (ne-eqb _ _ (c .before .before .before .if1 .left), ne-eqb _ _ (c .before .before .if2 .left), ne-eqb _ _ (c .before .if3 .left)) (c .either4 .ensures)
+returns-4 c = search (tests, c .either4 .ensures)
 
 pub named-spec : {M : Type 1} → statement M
 named-spec =

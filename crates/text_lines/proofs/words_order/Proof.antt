@@ -35,7 +35,21 @@ ordered-requires c κs = search needs
 
 returns : tie.Need-returns
 unfolding wordsOrder
-returns c = rw (c .before .word-count .ensures, c .before .before .row .ensures, c .before .before .before .first-word4 .ensures, c .before .before .before .before .after-word3 .ensures, c .before .before .before .before .before .first-word3 .ensures, c .before .before .before .before .before .before .first-word2 .ensures, c .before .before .before .before .before .before .before .first-word .ensures, c .before .before .before .before .before .before .before .before .after-word2 .ensures, c .before .before .before .before .before .before .before .before .before .after-word .ensures) at (c .ordered .ensures)
+returns c =
+    let more = c .before .before .before in
+    let value = more .before .before in
+    let verb = value .before .before in
+    let counted = rw (more .first-word4 .ensures, more .before .after-word3 .ensures) at (c .before .word-count .ensures) in
+    rw (
+      counted,
+      c .before .before .row .ensures,
+      value .first-word3 .ensures,
+      value .before .first-word2 .ensures,
+      verb .first-word .ensures,
+      verb .before .after-word2 .ensures,
+      verb .before .before .after-word .ensures,
+    )
+    at (c .ordered .ensures)
 
 pub words-order-spec : {M : Type 1} → statement M
 words-order-spec =
