@@ -22,15 +22,29 @@ unfoldable pub the : String → ℕ
 unfolding indexOf name names
 the s = indexOf (name s) names
 
--- 71: no line starts with this word. 72: other words after the first than this line takes. 73: a number that is too large for its place.
+-- 71: no line starts with this word.
 abbrev pub unknown : ℕ
 unknown = 71
 
+-- 72: other words after the first than this line takes.
 abbrev pub unfit : ℕ
 unfit = 72
 
+-- 73: a number that is too large for its place.
 abbrev pub beyond : ℕ
 beyond = 73
+
+-- A byte of ones.
+abbrev pub allOnes : ℕ
+allOnes = 255
+
+-- The highest step: all lines high.
+abbrev pub allHigh : ℕ
+allHigh = 63
+
+-- The highest fuse byte: all fuses unblown.
+abbrev pub allUnblown : ℕ
+allUnblown = 7
 
 -- `reset`, `write`, `erase`, `blow`
 unfoldable pub alone : ℕ → Order
@@ -40,6 +54,7 @@ alone verb =
     (cond (eqb verb (the "write")) (Drive (Program false))
     (cond (eqb verb (the "erase")) (Drive (Program true)) (Drive Blow)))
 
+-- One of two words, a for the one order and b for the other.
 unfoldable pub either : ℕ → ℕ → ℕ → Order → Order → Order
 either object a b this that = cond (eqb object a) this (cond (eqb object b) that (Wrong unfit))
 
@@ -49,7 +64,7 @@ unfolding the either
 named verb object =
     cond (eqb verb (the "power")) (either object (the "on") (the "off") (Drive (Power true)) (Drive (Power false)))
     (cond (eqb verb (the "fus")) (either object (the "high") (the "low") (Drive (Fus true)) (Drive (Fus false)))
-    (cond (eqb verb (the "image")) (either object (the "ones") (the "zeros") (Image (Fill 0 bytes 255)) (Image (Fill 0 bytes 0)))
+    (cond (eqb verb (the "image")) (either object (the "ones") (the "zeros") (Image (Fill 0 bytes allOnes)) (Image (Fill 0 bytes 0)))
     (either object (the "write") (the "erase") (Drive (Cut false)) (Drive (Cut true)))))
 
 -- A word that has to be a number.
@@ -65,12 +80,12 @@ walkOrder w = with-number (numberOf false w) (λ n. Drive (Walk n))
 -- `lines 37`: a step as it is.
 unfoldable pub linesOrder : List ℕ → Order
 unfolding with-number
-linesOrder w = with-number (numberOf false w) (λ n. cond (ltb 63 n) (Wrong beyond) (Drive (Lines n)))
+linesOrder w = with-number (numberOf false w) (λ n. cond (ltb allHigh n) (Wrong beyond) (Drive (Lines n)))
 
 -- `fuses 7`
 unfoldable pub fusesOrder : List ℕ → Order
 unfolding with-number
-fusesOrder w = with-number (numberOf false w) (λ n. cond (ltb 7 n) (Wrong beyond) (Image (Fuses n)))
+fusesOrder w = with-number (numberOf false w) (λ n. cond (ltb allUnblown n) (Wrong beyond) (Image (Fuses n)))
 
 -- `show A5C3`, `show A5C3F00D`: four hex digits are 16 bits, eight are 32.
 unfoldable pub showOrder : List ℕ → Order
@@ -84,6 +99,18 @@ unfoldable pub openOrder : List ℕ → Order
 unfolding with-number
 openOrder w = with-number (numberOf true w) (λ n. cond (eqb (length w) 4) (Drive (Open n)) (Wrong unfit))
 
+-- `walk`, `lines` and `fuses`: a decimal number.
+unfoldable pub decimal : ℕ → List ℕ → Order
+unfolding the walkOrder linesOrder fusesOrder
+decimal verb w =
+    cond (eqb verb (the "walk")) (walkOrder w) (cond (eqb verb (the "lines")) (linesOrder w) (fusesOrder w))
+
+-- `show` and `open`: a code in hex digits.
+unfoldable pub coded : ℕ → List ℕ → Order
+unfolding the showOrder openOrder
+coded verb w = cond (eqb verb (the "show")) (showOrder w) (openOrder w)
+
+-- The lines whose second word is a number.
 unfoldable pub numbered : ℕ → List ℕ → Order
 unfolding the
 numbered verb w =
@@ -106,10 +133,11 @@ unfolding with-number
 byteOrder object w =
     with-number (numberOf false object) (λ at. cond (ltb bytes at) (Wrong beyond) (bytesOrder at (bytes - at) w))
 
--- 01, "Rights", in bytes: the zones FZ to MFZ, the first byte of each and how many it has.
+-- 01, "Rights", in bytes: the first byte of each of the zones FZ to MFZ.
 abbrev pub firsts : List ℕ
 firsts = 0 ∷ 2 ∷ 10 ∷ 12 ∷ 14 ∷ 22 ∷ 150 ∷ 154 ∷ 170 ∷ 172 ∷ []
 
+-- And how many bytes each has.
 abbrev pub sizes : List ℕ
 sizes = 2 ∷ 8 ∷ 2 ∷ 2 ∷ 8 ∷ 128 ∷ 4 ∷ 16 ∷ 2 ∷ 2 ∷ []
 
@@ -121,7 +149,7 @@ zoneOrder object w =
     let count = getD sizes (object - the "FZ") 0 in
     cond (ltb object (the "FZ")) (Wrong unfit)
     (cond (ltb (the "MFZ") object) (Wrong unfit)
-    (cond (eqb (rowOf w) (the "ones")) (Image (Fill first count 255))
+    (cond (eqb (rowOf w) (the "ones")) (Image (Fill first count allOnes))
     (cond (eqb (rowOf w) (the "zeros")) (Image (Fill first count 0)) (bytesOrder first count w))))
 
 -- How many words a line has; 4 stands for any more.
@@ -142,6 +170,7 @@ orderOf verb count object value =
     (cond (eqb count 2) (cond (ltb verb (the "walk")) (named verb (rowOf object)) (numbered verb object)) (Wrong unfit))
     (cond (eqb count 3) (cond (eqb verb (the "byte")) (byteOrder object value) (zoneOrder (rowOf object) value)) (Wrong unfit)))))
 
+-- The order of a line's words.
 unfoldable pub wordsOrder : List ℕ → Order
 wordsOrder s =
     let second = afterWord s in

@@ -5,7 +5,7 @@ ghost use Prim.Native.Nat.{_≤_};
 ghost use mathlib.Core.Path.{_≡_};
 ghost use lib.ListN.{getD};
 ghost use Rattle.text_lines.specs.Orders.{wordCount, alone as aloneOf, either as eitherOf, named as namedOf};
-ghost use Rattle.text_lines.specs.Orders.{walkOrder, linesOrder, fusesOrder, showOrder, openOrder, numbered as numberedOf};
+ghost use Rattle.text_lines.specs.Orders.{decimal as decimalOf, coded as codedOf, numbered as numberedOf};
 ghost use Rattle.text_lines.specs.Orders.{firsts, sizes, bytesOrder, byteOrder, zoneOrder, orderOf, wordsOrder, lineOrder};
 
 pub enum Change {
@@ -84,6 +84,18 @@ const FZ: usize = 21;
 
 const MFZ: usize = 30;
 
+// The image's bytes.
+const BYTES: usize = 174;
+
+// A byte of ones.
+const ALL_ONES: u8 = 255;
+
+// The highest step: all lines high.
+const ALL_HIGH: u64 = 63;
+
+// The highest fuse byte: all fuses unblown.
+const ALL_UNBLOWN: u64 = 7;
+
 // No line starts with this word.
 const UNKNOWN: u8 = 71;
 
@@ -157,8 +169,8 @@ fn named(verb: usize, object: usize) -> Order
             object,
             ONES,
             ZEROS,
-            filling(0, 174, 255),
-            filling(0, 174, 0),
+            filling(0, BYTES, ALL_ONES),
+            filling(0, BYTES, 0),
         );
     }
     either(
@@ -170,62 +182,46 @@ fn named(verb: usize, object: usize) -> Order
     )
 }
 
-fn walk(w: &[u8]) -> Order
-    ensures { λ r. ⌜ r ≡ walkOrder (now (w .entry)) ⌝ }
+// `walk`, `lines` and `fuses`.
+fn decimal(verb: usize, w: &[u8]) -> Order
+    ensures { λ r. ⌜ r ≡ decimalOf verb (now (w .entry)) ⌝ }
 {
     let Number::Is(n) = words::numeral(false, w) else {
         return Order::Wrong(UNFIT);
     };
-    Order::Drive(Act::Walk(n as usize))
-}
-
-fn lines(w: &[u8]) -> Order
-    ensures { λ r. ⌜ r ≡ linesOrder (now (w .entry)) ⌝ }
-{
-    let Number::Is(n) = words::numeral(false, w) else {
-        return Order::Wrong(UNFIT);
-    };
-    if 63 < n {
-        return Order::Wrong(BEYOND);
+    if verb == WALK {
+        return Order::Drive(Act::Walk(n as usize));
     }
-    Order::Drive(Act::Lines(n as u8))
-}
-
-fn fuses(w: &[u8]) -> Order
-    ensures { λ r. ⌜ r ≡ fusesOrder (now (w .entry)) ⌝ }
-{
-    let Number::Is(n) = words::numeral(false, w) else {
-        return Order::Wrong(UNFIT);
-    };
-    if 7 < n {
+    if verb == LINES {
+        if ALL_HIGH < n {
+            return Order::Wrong(BEYOND);
+        }
+        return Order::Drive(Act::Lines(n as u8));
+    }
+    if ALL_UNBLOWN < n {
         return Order::Wrong(BEYOND);
     }
     Order::Image(Change::Fuses(n as u8))
 }
 
-fn show(w: &[u8]) -> Order
-    ensures { λ r. ⌜ r ≡ showOrder (now (w .entry)) ⌝ }
+// `show` and `open`.
+fn coded(verb: usize, w: &[u8]) -> Order
+    ensures { λ r. ⌜ r ≡ codedOf verb (now (w .entry)) ⌝ }
 {
     let Number::Is(n) = words::numeral(true, w) else {
         return Order::Wrong(UNFIT);
     };
     if w.len() == 4 {
-        return Order::Drive(Act::Show16(n as u16));
+        let code = n as u16;
+        if verb == SHOW {
+            return Order::Drive(Act::Show16(code));
+        }
+        return Order::Drive(Act::Open(code));
     }
     if w.len() == 8 {
-        return Order::Drive(Act::Show32(n as u32));
-    }
-    Order::Wrong(UNFIT)
-}
-
-fn open(w: &[u8]) -> Order
-    ensures { λ r. ⌜ r ≡ openOrder (now (w .entry)) ⌝ }
-{
-    let Number::Is(n) = words::numeral(true, w) else {
-        return Order::Wrong(UNFIT);
-    };
-    if w.len() == 4 {
-        return Order::Drive(Act::Open(n as u16));
+        if verb == SHOW {
+            return Order::Drive(Act::Show32(n as u32));
+        }
     }
     Order::Wrong(UNFIT)
 }
@@ -233,16 +229,10 @@ fn open(w: &[u8]) -> Order
 fn numbered(verb: usize, w: &[u8]) -> Order
     ensures { λ r. ⌜ r ≡ numberedOf verb (now (w .entry)) ⌝ }
 {
-    if verb == WALK {
-        return walk(w);
+    if (verb == WALK) | ((verb == LINES) | (verb == FUSES)) {
+        return decimal(verb, w);
     }
-    if verb == LINES {
-        return lines(w);
-    }
-    if verb == FUSES {
-        return fuses(w);
-    }
-    if verb == SHOW { show(w) } else { open(w) }
+    coded(verb, w)
 }
 
 // The bytes of a word of hex digits from byte `first` on, where there is room for so many.
@@ -273,10 +263,11 @@ fn byte(object: &[u8], w: &[u8]) -> Order
     let Number::Is(at) = words::numeral(false, object) else {
         return Order::Wrong(UNFIT);
     };
-    if 174 < at {
+    let first = at as usize;
+    if BYTES < first {
         return Order::Wrong(BEYOND);
     }
-    bytes(at as usize, 174 - at as usize, w)
+    bytes(first, BYTES - first, w)
 }
 
 // The zones' first bytes and how many they have, in the order of the table of names.
@@ -309,7 +300,7 @@ fn zone(object: usize, w: &[u8]) -> Order
     let count = byte_count(object - FZ);
     let level = words::row(w);
     if level == ONES {
-        return filling(first, count, 255);
+        return filling(first, count, ALL_ONES);
     }
     if level == ZEROS {
         return filling(first, count, 0);

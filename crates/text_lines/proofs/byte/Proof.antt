@@ -1,9 +1,17 @@
-use mathlib.Core.Path.{refl}
-use borrow.Author.Tests.{lt-ltb, le-ltb}
-use Rattle.text_lines.specs.Orders.{byteOrder}
+use mathlib.Core.Bool.{false}
+use mathlib.Core.Path.{_≡_, refl, sym, _∙_}
 use borrow.Author.Needs.{needs}
+use denote.Ref.{now}
+use Rattle.words.specs.Numbers.{numberOf}
+use Rattle.words.specs.declared.Number.the-variants.{Is}
+use Rattle.words.proofs.Tests.{tests}
+use Rattle.text_lines.specs.Orders.{byteOrder}
 use Rattle.text_lines.proofs.byte.Statement.{statement}
 use Rattle.text_lines.proofs.byte.Tie as tie
+
+-- The number that the word writes.
+known : (c : tie.After-at) → numberOf false (now (c .before .before .before .before .before .args .object)) ≡ Is (c .at .given .0 .0)
+known c = sym (c .before .before .numeral .ensures) ∙ c .at .given .1
 
 numeral-requires : tie.Need-numeral-requires
 numeral-requires c κs = search needs
@@ -20,19 +28,14 @@ returns c = rw (← c .before .before .numeral .ensures, c .enum-told .given .1)
 
 returns-2 : tie.Need-returns-2
 unfolding byteOrder
-returns-2 c = rw (← c .before .before .before .before .numeral .ensures, c .before .before .at .given .1, lt-ltb _ _ (c .if1 .taken)) refl
-
-sub-bytes : tie.Need-sub-bytes
-sub-bytes c = search needs
+returns-2 c = rw (known (c .before .before)) (search tests)
 
 bytes-requires : tie.Need-bytes-requires
 bytes-requires c κs = search needs
 
 returns-3 : tie.Need-returns-3
 unfolding byteOrder
-returns-3 c =
-    let known = c .before .before .before in
-    rw (← known .before .before .numeral .ensures, known .at .given .1, le-ltb _ _ (c .before .if1 .left)) (c .bytes .ensures)
+returns-3 c = rw (known (c .before .before .before)) (search (tests, c .bytes .ensures))
 
 pub byte-spec : {M : Type 1} → statement M
 byte-spec =
@@ -43,6 +46,5 @@ byte-spec =
     enum-told
     returns
     returns-2
-    sub-bytes
     bytes-requires
     returns-3)
