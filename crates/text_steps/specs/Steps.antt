@@ -13,6 +13,14 @@ use Rattle.text_lines.specs.declared.Act.the-variants.{Power, Fus, Lines, Cut, 
 unfoldable pub fusAt : ℕ → Bool
 fusAt levels = leb 32 levels
 
+-- The levels of all lines but FUS, whose mask is 32.
+abbrev pub otherLines : ℕ → ℕ
+otherLines levels = levels % 32
+
+-- Idle, but for FUS: VCC on and I/O 1.
+abbrev pub idleLines : ℕ
+idleLines = 17
+
 -- Switched off: all lines low but FUS.
 unfoldable pub off : Bool → ℕ
 unfolding mask
@@ -37,7 +45,7 @@ cut fus d =
 -- The steps of an act at these levels, with the byte of bits 96 to 103 for `open`. `fus high` and `fus low` change FUS alone.
 unfoldable pub stepsOf : Act → ℕ → ℕ → List ℕ
 stepsOf (Power on) levels attempts = power (fusAt levels) on
-stepsOf (Fus high) levels attempts = (levels % 32 + off high) ∷ []
+stepsOf (Fus high) levels attempts = (otherLines levels + off high) ∷ []
 stepsOf (Lines n) levels attempts = n ∷ []
 stepsOf (Cut d) levels attempts = cut (fusAt levels) d
 stepsOf Reset levels attempts = reset (fusAt levels)
@@ -64,18 +72,22 @@ makerRefusal Blow attempts = 0
 
 -- "From idle": VCC on and I/O 1. `power on` starts where all is low, FUS and raw lines are changed anywhere.
 unfoldable pub startsAt : Act → ℕ → Bool
-startsAt (Power on) levels = eqb (levels % 32) (cond on 0 17)
+startsAt (Power on) levels = eqb (otherLines levels) (cond on 0 idleLines)
 startsAt (Fus high) levels = true
 startsAt (Lines n) levels = true
-startsAt (Cut d) levels = eqb (levels % 32) 17
-startsAt Reset levels = eqb (levels % 32) 17
-startsAt (Walk n) levels = eqb (levels % 32) 17
-startsAt (Show16 x) levels = eqb (levels % 32) 17
-startsAt (Show32 x) levels = eqb (levels % 32) 17
-startsAt (Open code) levels = eqb (levels % 32) 17
-startsAt (Program d) levels = eqb (levels % 32) 17
-startsAt Blow levels = eqb (levels % 32) 17
+startsAt (Cut d) levels = eqb (otherLines levels) idleLines
+startsAt Reset levels = eqb (otherLines levels) idleLines
+startsAt (Walk n) levels = eqb (otherLines levels) idleLines
+startsAt (Show16 x) levels = eqb (otherLines levels) idleLines
+startsAt (Show32 x) levels = eqb (otherLines levels) idleLines
+startsAt (Open code) levels = eqb (otherLines levels) idleLines
+startsAt (Program d) levels = eqb (otherLines levels) idleLines
+startsAt Blow levels = eqb (otherLines levels) idleLines
 
 -- 75: the lines are not where the act starts.
+abbrev pub elsewhere : ℕ
+elsewhere = 75
+
+-- The refusal of an act at these levels, 0 if none.
 unfoldable pub refusalOf : Act → ℕ → ℕ → ℕ
-refusalOf act levels attempts = cond (startsAt act levels) (makerRefusal act attempts) 75
+refusalOf act levels attempts = cond (startsAt act levels) (makerRefusal act attempts) elsewhere

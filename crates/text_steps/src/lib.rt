@@ -2,49 +2,67 @@
 use maker::Made;
 use text_lines::Act;
 ghost use Prim.Native.Nat.{_≤_};
+ghost use mathlib.Core.Bool.{cond};
 ghost use mathlib.Core.Path.{_≡_};
-ghost use Rattle.rules.specs.Maker.{io as ioOf};
 ghost use Rattle.maker.specs.Act.{Acted};
-ghost use Rattle.text_steps.specs.Steps.{off as offOf, power as powerOf, cut as cutOf, stepsOf, makerRefusal, startsAt, refusalOf};
+ghost use Rattle.text_steps.specs.Steps.{power as powerOf, cut as cutOf, stepsOf, makerRefusal, startsAt, refusalOf};
 
-fn off(fus: bool) -> u8
-    ensures { λ r. ⌜ r ≡ offOf fus ⌝ }
-    ensures { λ r. ⌜ r ≤ 32 ⌝ }
-{
-    if fus { 32 } else { 0 }
-}
+// Masks of the lines.
+const VCC: u8 = 1;
 
-fn io(d: bool) -> u8
-    ensures { λ r. ⌜ r ≡ ioOf d ⌝ }
-    ensures { λ r. ⌜ r ≤ 16 ⌝ }
+const CLK: u8 = 4;
+
+const PGM: u8 = 8;
+
+const IO: u8 = 16;
+
+const FUS: u8 = 32;
+
+// Idle, but for FUS.
+const IDLE: u8 = VCC + IO;
+
+// The steps of a cut, but for FUS and, after the first, I/O.
+const PGM_UP: u8 = IDLE + PGM;
+
+const IO_SET: u8 = VCC + PGM;
+
+const CLK_UP: u8 = VCC + PGM + CLK;
+
+const VCC_DOWN: u8 = PGM + CLK;
+
+const CLK_DOWN: u8 = PGM;
+
+// The lines are not where the act starts.
+const ELSEWHERE: u8 = 75;
+
+// The lines of the mask, high or low, and all others low.
+fn levels(mask: u8, high: bool) -> u8
+    ensures { λ r. ⌜ r ≡ cond high mask 0 ⌝ }
+    ensures { λ r. ⌜ r ≤ mask ⌝ }
 {
-    if d { 16 } else { 0 }
+    if high { mask } else { 0 }
 }
 
 fn power(fus: bool, on: bool, out: &mut [u8]) -> Made
     ensures { λ r. ⌜ Acted 0 (powerOf fus on) (now (out .entry)) r (now (out .exit)) ⌝ }
 {
-    let off = off(fus);
-    if on {
-        let up = [off + 16, off + 17];
-        return maker::raw(&up, out);
-    }
-    let down = [off + 16, off];
-    maker::raw(&down, out)
+    let off = levels(FUS, fus);
+    let steps = [off + IO, off + levels(IDLE, on)];
+    maker::raw(&steps, out)
 }
 
 fn cut(fus: bool, d: bool, out: &mut [u8]) -> Made
     ensures { λ r. ⌜ Acted 0 (cutOf fus d) (now (out .entry)) r (now (out .exit)) ⌝ }
 {
-    let off = off(fus);
-    let io = io(d);
+    let off = levels(FUS, fus);
+    let io = off + levels(IO, d);
     let steps = [
-        off + 25,
-        off + 9 + io,
-        off + 13 + io,
-        off + 12 + io,
-        off + 8 + io,
-        off + io,
+        off + PGM_UP,
+        io + IO_SET,
+        io + CLK_UP,
+        io + VCC_DOWN,
+        io + CLK_DOWN,
+        io,
         off,
     ];
     maker::raw(&steps, out)
@@ -53,7 +71,7 @@ fn cut(fus: bool, d: bool, out: &mut [u8]) -> Made
 fn set_fus(high: bool, lines: u8, out: &mut [u8]) -> Made
     ensures { λ r. ⌜ Acted 0 (stepsOf (Act.Fus high) lines 0) (now (out .entry)) r (now (out .exit)) ⌝ }
 {
-    let step = [lines % 32 + off(high)];
+    let step = [lines % FUS + levels(FUS, high)];
     maker::raw(&step, out)
 }
 
@@ -67,26 +85,26 @@ fn set_lines(n: u8, out: &mut [u8]) -> Made
 fn starts_at(act: Act, lines: u8) -> bool
     ensures { λ r. ⌜ r ≡ startsAt act lines ⌝ }
 {
-    let level = lines % 32;
+    let level = lines % FUS;
     match act {
-        Act::Power(on) => { if on { level == 0 } else { level == 17 } }
+        Act::Power(on) => { if on { level == 0 } else { level == IDLE } }
         Act::Fus(_) => true,
         Act::Lines(_) => true,
-        Act::Cut(_) => level == 17,
-        Act::Reset => level == 17,
-        Act::Walk(_) => level == 17,
-        Act::Show16(_) => level == 17,
-        Act::Show32(_) => level == 17,
-        Act::Open(_) => level == 17,
-        Act::Program(_) => level == 17,
-        Act::Blow => level == 17,
+        Act::Cut(_) => level == IDLE,
+        Act::Reset => level == IDLE,
+        Act::Walk(_) => level == IDLE,
+        Act::Show16(_) => level == IDLE,
+        Act::Show32(_) => level == IDLE,
+        Act::Open(_) => level == IDLE,
+        Act::Program(_) => level == IDLE,
+        Act::Blow => level == IDLE,
     }
 }
 
 fn made(act: Act, lines: u8, attempts: u8, out: &mut [u8]) -> Made
     ensures { λ r. ⌜ Acted (makerRefusal act attempts) (stepsOf act lines attempts) (now (out .entry)) r (now (out .exit)) ⌝ }
 {
-    let fus = 32 <= lines;
+    let fus = FUS <= lines;
     match act {
         Act::Power(on) => power(fus, on, out),
         Act::Fus(high) => set_fus(high, lines, out),
@@ -109,5 +127,5 @@ pub fn make(act: Act, lines: u8, attempts: u8, out: &mut [u8]) -> Made
     if starts_at(act, lines) {
         return made(act, lines, attempts, out);
     }
-    Made::Refused(75)
+    Made::Refused(ELSEWHERE)
 }

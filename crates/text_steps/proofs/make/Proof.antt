@@ -16,7 +16,9 @@ same-length c = search needs
 
 returns : tie.Need-returns
 unfolding refusalOf
-returns c = rw (← c .before .before .before .before .before .starts-at .ensures, c .before .before .before .before .if1 .taken) (c .before .before .made .ensures)
+returns c =
+    let branch = c .before .before .before .before in
+    rw (← branch .before .starts-at .ensures, branch .if1 .taken) (c .before .before .made .ensures)
 
 returns-2 : tie.Need-returns-2
 unfolding refusalOf made inBuffer
