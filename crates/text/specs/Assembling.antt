@@ -13,22 +13,35 @@ use Rattle.text.specs.declared.Assembled.{Assembled}
 use Rattle.text.specs.declared.Assembled.the-variants.{Session, Wrong}
 
 -- 76: the buffer is too small for the session.
-unfoldable pub answerTo : Reading → ℕ → Assembled
-answerTo (Whole s) room = cond (ltb room (length (session s))) (Wrong 0 76) (Session (length (session s)))
-answerTo (Amiss line k) room = Wrong line k
+abbrev pub noRoom : ℕ
+noRoom = 76
 
 -- 77: the text is longer than 64 KiB.
-unfoldable pub assembled : List ℕ → ℕ → Assembled
-assembled text room = cond (ltb 65536 (length text)) (Wrong 0 77) (answerTo (meaning text) room)
+abbrev pub tooLong : ℕ
+tooLong = 77
 
+-- 64 KiB.
+abbrev pub longestText : ℕ
+longestText = 65536
+
+-- The answer to a text that is not too long, with so much room.
+unfoldable pub answerTo : Reading → ℕ → Assembled
+answerTo (Whole s) room = cond (ltb room (length (session s))) (Wrong 0 noRoom) (Session (length (session s)))
+answerTo (Amiss line refusal) room = Wrong line refusal
+
+-- The answer to any text.
+unfoldable pub assembled : List ℕ → ℕ → Assembled
+assembled text room = cond (ltb longestText (length text)) (Wrong 0 tooLong) (answerTo (meaning text) room)
+
+-- The session of a reading, none of a wrong text.
 unfoldable pub sessionIn : Reading → List ℕ
 sessionIn (Whole s) = session s
-sessionIn (Amiss line k) = []
+sessionIn (Amiss line refusal) = []
 
 -- A session stands at the front of the buffer; wrong text changes no byte.
 unfoldable pub inBuffer : Assembled → Reading → List ℕ → List ℕ
 inBuffer (Session n) m buffer = sessionIn m ++ drop n buffer
-inBuffer (Wrong line k) m buffer = buffer
+inBuffer (Wrong line refusal) m buffer = buffer
 
 -- 01's opener accepts a sheet's session and finds its parts.
 pub record Opened (s : Sheet) : Type 0 where

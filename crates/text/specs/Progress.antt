@@ -12,34 +12,41 @@ use Rattle.text.specs.declared.sheet.Step.the-variants as step
 use Rattle.text.specs.declared.reading.Read.{Read}
 use Rattle.text.specs.declared.reading.Read.the-variants as read
 
+-- The sheet that is held so.
 unfoldable pub sheetOf : Progress → List ℕ → List ℕ → Sheet
 sheetOf p image steps = record { image = image; fuses = p .fuses; steps = take (p .count) steps }
 
+-- What a step of the reading comes to.
 unfoldable pub outcomeOf : Step → List ℕ → List ℕ → Outcome
 outcomeOf (step.On p) image steps = Went (sheetOf p image steps)
-outcomeOf (step.Stopped k) image steps = Stopped k
+outcomeOf (step.Stopped refusal) image steps = Stopped refusal
 
+-- How many steps there are after it.
 unfoldable pub countOf : Step → ℕ
 countOf (step.On p) = p .count
-countOf (step.Stopped k) = 0
+countOf (step.Stopped refusal) = 0
 
 -- A step of the reading has this outcome, with the steps within their buffer.
 pub record Came (expected : Outcome) (r : Step) (image steps : List ℕ) : Type 0 where
   pub outcome : outcomeOf r image steps ≡ expected
   pub within : countOf r ≤ length steps
 
+-- What the reading of all lines comes to.
 unfoldable pub readingOf : Read → List ℕ → List ℕ → Reading
 readingOf (read.Whole p) image steps = Whole (sheetOf p image steps)
-readingOf (read.Amiss line k) image steps = Amiss line k
+readingOf (read.Amiss line refusal) image steps = Amiss line refusal
 
+-- How many steps there are after them.
 unfoldable pub readCount : Read → ℕ
 readCount (read.Whole p) = p .count
-readCount (read.Amiss line k) = 0
+readCount (read.Amiss line refusal) = 0
 
+-- The reading has this outcome, with the steps within their buffer.
 pub record CameThrough (expected : Reading) (r : Read) (image steps : List ℕ) : Type 0 where
   pub outcome : readingOf r image steps ≡ expected
   pub within : readCount r ≤ length steps
 
+-- A change of the image and the fuses.
 pub record Changed (c : Change) (fuses : ℕ) (image : List ℕ) (r : ℕ) (after : List ℕ) : Type 0 where
   pub bytes : after ≡ changedImage c image
   pub answer : r ≡ changedFuses c fuses

@@ -6,33 +6,48 @@ mod reading;
 mod session;
 mod sheet;
 
-// So many bytes of a session, or the first wrong line and the reason; line 0 where it is no line's.
+// So many bytes of a session, or the first wrong line and its refusal; line 0 where it is no line's.
 pub enum Assembled {
     Session(usize),
     Wrong { line: usize, reason: u8 },
 }
 
+// The buffer is too small for the session.
 const NO_ROOM: u8 = 76;
 
+// The text is longer than 64 KiB.
 const TOO_LONG: u8 = 77;
+
+const LONGEST_TEXT: usize = 65536;
+
+// The image's bytes.
+const BYTES: usize = 174;
+
+const ALL_ONES: u8 = 255;
+
+// The steps of a session.
+const LONGEST: usize = 4096;
 
 pub fn assemble(text: &[u8], out: &mut [u8]) -> Assembled
     ensures { λ r. ⌜ Assembles (now (text .entry)) (now (out .entry)) r (now (out .exit)) ⌝ }
 {
-    if 65536 < text.len() {
+    if LONGEST_TEXT < text.len() {
         return Assembled::Wrong {
             line: 0,
             reason: TOO_LONG,
         };
     }
-    let mut image = [255u8; 174];
-    let mut steps = [0u8; 4096];
+    let mut image = [ALL_ONES; BYTES];
+    let mut steps = [0u8; LONGEST];
     let read = reading::read_lines(text, &mut image, &mut steps);
     match read {
-        Read::Amiss { line, reason } => Assembled::Wrong { line, reason },
+        Read::Amiss { line, refusal } => Assembled::Wrong {
+            line,
+            reason: refusal,
+        },
         Read::Whole(p) => {
             let count = p.count;
-            if out.len() < 181 + count {
+            if out.len() < session::STEPS_AT + count {
                 return Assembled::Wrong {
                     line: 0,
                     reason: NO_ROOM,

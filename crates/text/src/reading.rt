@@ -14,15 +14,21 @@ ghost use Rattle.text.specs.Progress.{CameThrough};
 
 pub enum Read {
     Whole(Progress),
-    Amiss { line: usize, reason: u8 },
+    Amiss { line: usize, refusal: u8 },
 }
+
+// The fuse byte of no blown fuse.
+const UNBLOWN: u8 = 7;
 
 pub(crate) fn read_lines(text: &[u8], image: &mut [u8], steps: &mut [u8]) -> Read
     requires { ⌜ length (now image) ≡ bytes ⌝ }
     requires { ⌜ length (now steps) ≡ longest ⌝ }
     ensures { λ r. ⌜ CameThrough (reading 1 (sheetWith (now (image .entry))) (linesOf (now (text .entry)))) r (now (image .exit)) (now (steps .exit)) ⌝ }
 {
-    let mut p = Progress { fuses: 7, count: 0 };
+    let mut p = Progress {
+        fuses: UNBLOWN,
+        count: 0,
+    };
     let mut from = 0;
     let mut line = 1;
     loop {
@@ -31,7 +37,7 @@ pub(crate) fn read_lines(text: &[u8], image: &mut [u8], steps: &mut [u8]) -> Rea
         let order = text_lines::line_order(&rest[..end]);
         match sheet::follow(order, p, image, steps) {
             Step::On(next) => p = next,
-            Step::Stopped(reason) => return Read::Amiss { line, reason },
+            Step::Stopped(refusal) => return Read::Amiss { line, refusal },
         }
         if end == rest.len() {
             return Read::Whole(p);

@@ -4,8 +4,14 @@ ghost use mathlib.Core.Path.{_≡_};
 ghost use lib.ListN.{length};
 ghost use Rattle.memory.specs.Image.{bytes as imageBytes};
 ghost use Rattle.rules.specs.Refusals.{longest};
-ghost use Rattle.text.specs.Meaning.{sessionOf, Written};
+ghost use Rattle.text.specs.Meaning.{stepsAt, sessionOf, Written};
 ghost use Rattle.text.specs.Progress.{Put};
+
+// The place of the steps: after the image, the fuse byte and three counts.
+pub(crate) const STEPS_AT: usize = 181;
+
+// The image's bytes.
+const BYTES: u8 = 174;
 
 fn put(bytes: &[u8], out: &mut [u8], at: usize) -> usize
     requires { ⌜ at + length (now bytes) ≤ length (now out) ⌝ }
@@ -18,11 +24,11 @@ fn put(bytes: &[u8], out: &mut [u8], at: usize) -> usize
 pub(crate) fn write(image: &[u8], fuses: u8, steps: &[u8], out: &mut [u8]) -> usize
     requires { ⌜ length (now image) ≡ imageBytes ⌝ }
     requires { ⌜ length (now steps) ≤ longest ⌝ }
-    requires { ⌜ 181 + length (now steps) ≤ length (now out) ⌝ }
+    requires { ⌜ stepsAt + length (now steps) ≤ length (now out) ⌝ }
     ensures { λ r. ⌜ Written (sessionOf (now (image .entry)) fuses (now (steps .entry))) (now (out .entry)) r (now (out .exit)) ⌝ }
 {
     let n = steps.len();
-    let memory = [174, 0];
+    let memory = [BYTES, 0];
     let middle = [1, 0, fuses, (n % 256) as u8, (n / 256) as u8];
     let first = put(&memory, out, 0);
     let second = put(image, out, first);

@@ -23,6 +23,12 @@ pub enum Step {
     Stopped(u8),
 }
 
+// The image and the fuses come before the first step.
+const AFTER_A_STEP: u8 = 74;
+
+// The byte of bits 96 to 103.
+const ATTEMPTS: usize = 12;
+
 // Byte k of x, the lowest being byte 0.
 fn byte_of(x: u64, k: usize) -> u8
     ensures { λ r. ⌜ r ≡ x / 2 ^ (8 * k) % 256 ⌝ }
@@ -81,7 +87,7 @@ fn arrange(c: Change, p: Progress, image: &mut [u8]) -> Step
         let fuses = change(c, p.fuses, image);
         return Step::On(Progress { fuses, count });
     }
-    Step::Stopped(74)
+    Step::Stopped(AFTER_A_STEP)
 }
 
 fn present(steps: &[u8]) -> u8
@@ -102,13 +108,13 @@ fn drive(act: Act, p: Progress, image: &[u8], steps: &mut [u8]) -> Step
 {
     let count = p.count;
     let lines = present(&steps[..count]);
-    let made = text_steps::make(act, lines, image[12], &mut steps[count..]);
+    let made = text_steps::make(act, lines, image[ATTEMPTS], &mut steps[count..]);
     match made {
         Made::Wrote(n) => Step::On(Progress {
             fuses: p.fuses,
             count: count + n,
         }),
-        Made::Refused(k) => Step::Stopped(k),
+        Made::Refused(refusal) => Step::Stopped(refusal),
     }
 }
 
@@ -122,6 +128,6 @@ pub(crate) fn follow(order: Order, p: Progress, image: &mut [u8], steps: &mut [u
         Order::Nothing => Step::On(p),
         Order::Image(c) => arrange(c, p, image),
         Order::Drive(act) => drive(act, p, image, steps),
-        Order::Wrong(k) => Step::Stopped(k),
+        Order::Wrong(refusal) => Step::Stopped(refusal),
     }
 }

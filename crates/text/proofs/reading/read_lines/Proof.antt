@@ -70,8 +70,8 @@ turned c =
 enum-known-next : tie.Need-enum-known-next Inv-loop μ-loop
 enum-known-next c = search needs
 
-enum-known-reason : tie.Need-enum-known-reason Inv-loop μ-loop
-enum-known-reason c = search needs
+enum-known-refusal : tie.Need-enum-known-refusal Inv-loop μ-loop
+enum-known-refusal c = search needs
 
 same-length : tie.Need-same-length Inv-loop μ-loop
 same-length c = turned (c .before .before .before .before .before .before .before) .image-kept ∙ c .before .before .before .before .before .before .before .before .before .before .before .before .before .before .loop .inv .image-sized
@@ -80,7 +80,7 @@ same-length-2 : tie.Need-same-length-2 Inv-loop μ-loop
 same-length-2 c = turned (c .before .before .before .before .before .before .before) .steps-kept ∙ c .before .before .before .before .before .before .before .before .before .before .before .before .before .before .loop .inv .steps-sized
 
 returns : tie.Need-returns Inv-loop μ-loop
-returns c = amiss (c .before .before .before .before .before .before .before .before .before .before .before .before .before .before .loop .inv) (turned (c .before .before .before .before .before .before .before)) _ (c .before .reason .given .1)
+returns c = amiss (c .before .before .before .before .before .before .before .before .before .before .before .before .before .before .loop .inv) (turned (c .before .before .before .before .before .before .before)) _ (c .before .refusal .given .1)
 
 same-length-3 : tie.Need-same-length-3 Inv-loop μ-loop
 same-length-3 c = turned (c .before .before .before .before .before .before .before .before) .image-kept ∙ c .before .before .before .before .before .before .before .before .before .before .before .before .before .before .before .loop .inv .image-sized
@@ -137,7 +137,7 @@ read-lines-spec =
     line-order-requires
     follow-requires
     enum-known-next
-    enum-known-reason
+    enum-known-refusal
     same-length
     same-length-2
     returns
