@@ -13,7 +13,7 @@ use Rattle.maker.specs.Act.{made, inBuffer, Acted}
 use Rattle.maker.specs.declared.Made.{Made}
 use Rattle.maker.specs.declared.Made.the-variants.{Wrote}
 use Rattle.memory.specs.Image.{bytes}
-use Rattle.text.specs.Meaning.{sessionOf, Written}
+use Rattle.text.specs.Meaning.{stepsAt, sessionOf, Written}
 use Rattle.text.specs.Progress.{Put}
 
 roomy : (xs : List ℕ) (room : ℕ) → length xs ≤ room → made 0 xs room ≡ Wrote (length xs)
@@ -40,8 +40,17 @@ grown {front} {l} {l′} {l″} {at} {r} xs w h p =
     record {
       count = omega (arith, n, w .count, p .place);
       kept =
+          let rest = drop (length front) l in
           p .bytes ∙
-          rw (w .kept, w .count, take-at front (drop (length front) l) (length front) refl, drop-append-add front (drop (length front) l) (length xs), drop-drop (length xs) (length front) l, n, append-assoc front xs)
+          rw (
+            w .kept,
+            w .count,
+            take-at front rest (length front) refl,
+            drop-append-add front rest (length xs),
+            drop-drop (length xs) (length front) l,
+            n,
+            append-assoc front xs,
+          )
           refl;
     }
 
@@ -54,17 +63,17 @@ length-session image fuses steps = simp length-append (omega arith)
 
 -- "memory, 174; fuses, 1; .. steps", each after its count.
 pub session-written :
-    (image steps : List ℕ) (fuses : ℕ) {l l₁ l₂ l₃ l₄ : List ℕ} {r₁ r₂ r₃ r₄ : ℕ}
-    → length image ≡ bytes → 181 + length steps ≤ length l
-    → Put (174 ∷ 0 ∷ []) l 0 r₁ l₁
+    {image steps : List ℕ} {fuses : ℕ} {l l₁ l₂ l₃ l₄ : List ℕ} {r₁ r₂ r₃ r₄ : ℕ}
+    → length image ≡ bytes → stepsAt + length steps ≤ length l
+    → Put (bytes ∷ 0 ∷ []) l 0 r₁ l₁
     → Put image l₁ r₁ r₂ l₂
     → Put (1 ∷ 0 ∷ fuses ∷ (length steps % 256) ∷ (length steps / 256) ∷ []) l₂ r₂ r₃ l₃
     → Put steps l₃ r₃ r₄ l₄ → Written (sessionOf image fuses steps) l r₄ l₄
 unfolding sessionOf
-session-written image steps fuses {l} e h p₁ p₂ p₃ p₄ =
+session-written {image} {steps} {fuses} {l} e h p₁ p₂ p₃ p₄ =
     let middle : List ℕ = 1 ∷ 0 ∷ fuses ∷ (length steps % 256) ∷ (length steps / 256) ∷ [] in
     let n = length-append image middle in
-    let w₁ = grown (174 ∷ 0 ∷ []) (nothing-yet l) (omega arith) p₁ in
+    let w₁ = grown (bytes ∷ 0 ∷ []) (nothing-yet l) (omega arith) p₁ in
     let w₂ = grown image w₁ (omega (arith, e)) p₂ in
     let w₃ = grown middle w₂ (omega (arith, e)) p₃ in
     rw (append-assoc image middle steps) at (grown steps w₃ (omega (arith, e, n)) p₄)

@@ -1,4 +1,3 @@
-use denote.Ref.{now}
 use Rattle.text.proofs.Sections.{session-written}
 use borrow.Author.Needs.{needs}
 use Rattle.text.proofs.session.write.Statement.{statement}
@@ -32,7 +31,14 @@ same-length : tie.Need-same-length
 same-length c = search needs
 
 returns : tie.Need-returns
-returns c = session-written (now (c .before .before .before .before .before .before .before .before .before .before .before .before .before .before .before .before .before .before .before .before .before .args .image)) (now (c .before .before .before .before .before .before .before .before .before .before .before .before .before .before .before .before .before .before .before .before .before .args .steps)) (c .before .before .before .before .before .before .before .before .before .before .before .before .before .before .before .before .before .before .before .before .before .args .fuses) (c .before .before .before .before .before .before .before .before .before .before .before .before .before .before .before .before .before .before .before .before .before .pre .0) (c .before .before .before .before .before .before .before .before .before .before .before .before .before .before .before .before .before .before .before .before .before .pre .1 .1) (c .before .before .before .before .before .before .before .before .before .before .before .before .before .before .before .put .ensures) (c .before .before .before .before .before .before .before .before .before .before .before .put2 .ensures) (c .before .before .before .before .before .before .put3 .ensures) (c .before .before .put4 .ensures)
+returns c =
+    let steps = c .before .before in
+    let middle = steps .before .before .before .before in
+    let image = middle .before .before .before .before .before in
+    let memory = image .before .before .before .before in
+    let start = memory .before .before .before .before .before .before in
+    session-written (start .pre .0) (start .pre .1 .1)
+    (memory .put .ensures) (image .put2 .ensures) (middle .put3 .ensures) (steps .put4 .ensures)
 
 pub write-spec : {M : Type 1} → statement M
 write-spec =
