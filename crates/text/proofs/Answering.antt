@@ -7,10 +7,10 @@ use borrow.Author.Tests.{lt-ltb, le-ltb}
 use lib.ListN.{length, take}
 use lib.Seq.{length-take-le, take-append-seam}
 use Rattle.memory.specs.Image.{bytes}
-use Rattle.text.specs.Sheet.{Sheet}
-use Rattle.text.specs.Meaning.{Reading, Whole, Amiss, meaning, session, Written}
+use Rattle.rules.specs.Refusals.{longest}
+use Rattle.text.specs.Meaning.{Whole, Amiss, meaning, stepsAt, sessionOf, session, Written}
 use Rattle.text.specs.Progress.{sheetOf, readingOf, readCount, CameThrough}
-use Rattle.text.specs.Assembling.{answerTo, assembled, sessionIn, inBuffer, Assembles}
+use Rattle.text.specs.Assembling.{noRoom, tooLong, longestText, answerTo, assembled, sessionIn, inBuffer, Assembles}
 use Rattle.text.specs.declared.sheet.Progress.{Progress}
 use Rattle.text.specs.declared.reading.Read.{Read}
 use Rattle.text.specs.declared.reading.Read.the-variants as read
@@ -19,53 +19,71 @@ use Rattle.text.proofs.Fitting.{no-session}
 use Rattle.text.proofs.Sections.{length-session}
 use Rattle.text.proofs.Opening.{opened}
 
--- What the reading of the lines tells.
-module _ {m : Reading} {r : Read} {image steps : List ℕ} (c : CameThrough m r image steps) where
-  pub read-amiss : {line k : ℕ} → r ≡ read.Amiss line k → m ≡ Amiss line k
-  unfolding readingOf
-  read-amiss e = sym (c .outcome) ∙ rw e refl
+-- A text that is not too long.
+abbrev pub Short : List ℕ → Type 0
+Short text = length text ≤ longestText
 
-  pub read-whole : {p : Progress} → r ≡ read.Whole p → m ≡ Whole (sheetOf p image steps)
-  unfolding readingOf
-  read-whole e = sym (c .outcome) ∙ rw e refl
+-- The lines are read, and the sheet is ready to be written as a session.
+pub record Ready (text : List ℕ) (p : Progress) (image steps : List ℕ) : Type 0 where
+  pub short : Short text
+  pub meant : meaning text ≡ Whole (sheetOf p image steps)
+  pub within : p .count ≤ length steps
+  pub image-sized : length image ≡ bytes
+  pub steps-sized : length steps ≡ longest
 
-  pub count-within : {p : Progress} → r ≡ read.Whole p → p .count ≤ length steps
-  unfolding readCount
-  count-within e = rw e at (c .within)
+module _ {text image steps : List ℕ} {r : Read} (short : Short text) (c : CameThrough (meaning text) r image steps) where
+  pub ready : {p : Progress} → r ≡ read.Whole p → length image ≡ bytes → length steps ≡ longest → Ready text p image steps
+  unfolding readingOf readCount
+  ready e i s =
+      record {
+        short = short;
+        meant = sym (c .outcome) ∙ rw e refl;
+        within = rw e at (c .within);
+        image-sized = i;
+        steps-sized = s;
+      }
 
-pub sheet-length : (p : Progress) (image steps : List ℕ) → length image ≡ bytes → p .count ≤ length steps → length (session (sheetOf p image steps)) ≡ 181 + p .count
-unfolding session sheetOf
-sheet-length p image steps e h =
-    omega (arith, length-session image (p .fuses) (take (p .count) steps), length-take-le (p .count) steps h)
+  pub wrong : {line k : ℕ} (buffer : List ℕ) → r ≡ read.Amiss line k → Assembles text buffer (Wrong line k) buffer
+  unfolding readingOf assembled answerTo inBuffer
+  wrong {line} {k} buffer e =
+      let amiss : meaning text ≡ Amiss line k = sym (c .outcome) ∙ rw e refl in
+      record { answer = rw (le-ltb longestText (length text) short, amiss) refl; kept = refl; accepted = λ n q. no-session q }
 
-module _ (text buffer : List ℕ) where
-  pub too-long : 65536 < length text → Assembles text buffer (Wrong 0 77) buffer
-  unfolding assembled inBuffer
-  too-long h = record { answer = rw (lt-ltb _ _ h) refl; kept = refl; accepted = λ n e. no-session e }
+pub too-long : (text buffer : List ℕ) → longestText < length text → Assembles text buffer (Wrong 0 tooLong) buffer
+unfolding assembled inBuffer
+too-long text buffer h = record { answer = rw (lt-ltb _ _ h) refl; kept = refl; accepted = λ n e. no-session e }
 
-  module _ (short : length text ≤ 65536) where
-    pub wrong : {line k : ℕ} → meaning text ≡ Amiss line k → Assembles text buffer (Wrong line k) buffer
+module _ {text : List ℕ} {p : Progress} {image steps : List ℕ} (y : Ready text p image steps) where
+  pub steps-taken : length (take (p .count) steps) ≡ p .count
+  steps-taken = length-take-le (p .count) steps (y .within)
+
+  sized : length (session (sheetOf p image steps)) ≡ stepsAt + p .count
+  unfolding session sheetOf
+  sized = omega (arith, length-session image (p .fuses) (take (p .count) steps), steps-taken, y .image-sized)
+
+  module _ (buffer : List ℕ) where
+    pub no-room : length buffer < stepsAt + p .count → Assembles text buffer (Wrong 0 noRoom) buffer
     unfolding assembled answerTo inBuffer
-    wrong e = record { answer = rw (le-ltb 65536 (length text) short, e) refl; kept = refl; accepted = λ n q. no-session q }
+    no-room h =
+        let tight = lt-ltb (length buffer) (length (session (sheetOf p image steps))) (omega (arith, sized, h)) in
+        record {
+          answer = rw (le-ltb longestText (length text) (y .short), y .meant, tight) refl;
+          kept = refl;
+          accepted = λ n q. no-session q;
+        }
 
-    module _ {s : Sheet} (e : meaning text ≡ Whole s) where
-      pub no-room : length buffer < length (session s) → Assembles text buffer (Wrong 0 76) buffer
-      unfolding assembled answerTo inBuffer
-      no-room h =
-          record {
-            answer = rw (le-ltb 65536 (length text) short, e, lt-ltb (length buffer) (length (session s)) h) refl;
-            kept = refl;
-            accepted = λ n q. no-session q;
-          }
-
-      pub done : {r : ℕ} {after : List ℕ} → length (session s) ≤ length buffer → Written (session s) buffer r after → Assembles text buffer (Session r) after
-      unfolding assembled answerTo sessionIn inBuffer
-      done {r} {after} h w =
-          record {
-            answer = rw (w .count, le-ltb 65536 (length text) short, e, le-ltb (length buffer) (length (session s)) h) refl;
-            kept = rw (e, w .count) (w .kept);
-            accepted =
-                λ n q.
-                let z : n ≡ r = cc in
-                rw (z, w .kept, w .count, take-append-seam (session s)) (opened text s e .accepted);
-          }
+    pub done :
+        {r : ℕ} {after : List ℕ} → stepsAt + p .count ≤ length buffer
+        → Written (sessionOf image (p .fuses) (take (p .count) steps)) buffer r after → Assembles text buffer (Session r) after
+    unfolding assembled answerTo sessionIn inBuffer session sheetOf
+    done {r} {after} h w =
+        let s = sheetOf p image steps in
+        let roomy = le-ltb (length buffer) (length (session s)) (omega (arith, sized, h)) in
+        record {
+          answer = rw (w .count, le-ltb longestText (length text) (y .short), y .meant, roomy) refl;
+          kept = rw (y .meant, w .count) (w .kept);
+          accepted =
+              λ n q.
+              let z : n ≡ r = cc in
+              rw (z, w .kept, w .count, take-append-seam (session s)) (opened text s (y .meant) .accepted);
+        }
