@@ -2,10 +2,23 @@ use mathlib.Core.Path.{sym}
 use native.Mathlib.Omega.{arith}
 use denote.Ref.{now}
 use lib.Seq.{length-take-le}
-use Rattle.text.proofs.Driving.{more-fits, came-on, came-to-a-stop}
+use Rattle.text.proofs.Driving.{Turn, more-fits, came-on, came-to-a-stop}
 use borrow.Author.Needs.{needs}
 use Rattle.text.proofs.sheet.drive.Statement.{statement}
 use Rattle.text.proofs.sheet.drive.Tie as tie
+
+-- What the maker did.
+turn :
+    (c : tie.After-make)
+    → let start = c .before .before .before .before .before .before .before in
+    Turn (start .args .act) (start .args .p) (now (start .args .image)) (now (start .args .steps)) (c .make .result) (c .make .last .1 .1 .1 .0)
+turn c =
+    let start = c .before .before .before .before .before .before .before in
+    record {
+      full = start .pre .1 .0;
+      within = start .pre .1 .1;
+      acted = rw (c .before .before .before .present .ensures) at (c .make .ensures);
+    }
 
 slice-reshare-prefix-present : tie.Need-slice-reshare-prefix-present
 slice-reshare-prefix-present c = search needs
@@ -35,7 +48,7 @@ enum-known-made : tie.Need-enum-known-made
 enum-known-made c = search needs
 
 add-t19 : tie.Need-add-t19
-add-t19 c = omega (arith, more-fits (c .before .before .before .before .before .before .before .before .before .before .before .before .args .act) (c .before .before .before .before .before .before .before .before .before .before .before .before .args .p) (now (c .before .before .before .before .before .before .before .before .before .before .before .before .args .image)) _ _ _ (c .before .before .before .before .before .before .before .before .before .before .before .before .pre .1 .0) (c .before .before .before .before .before .before .before .before .before .before .before .before .pre .1 .1) (rw (c .before .before .before .before .before .before .before .before .present .ensures) at (c .before .before .before .before .before .make .ensures)) _ (c .before .made .given .1))
+add-t19 c = omega (arith, more-fits (turn (c .before .before .before .before .before)) _ (c .before .made .given .1))
 
 enum-known-made-2 : tie.Need-enum-known-made-2
 enum-known-made-2 c = search needs
@@ -44,13 +57,15 @@ same-length : tie.Need-same-length
 same-length c = search needs
 
 returns : tie.Need-returns
-returns c = came-on _ _ _ _ _ _ (c .before .before .before .before .before .before .before .before .before .before .before .before .pre .1 .0) (c .before .before .before .before .before .before .before .before .before .before .before .before .pre .1 .1) (rw (c .before .before .before .before .before .before .before .before .present .ensures) at (c .before .before .before .before .before .make .ensures)) _ (c .before .made .given .1) (c .before .before .before .before .before .make .kept .1 .1 .1 .0)
+returns c =
+    let made = c .before .before .before .before .before in
+    came-on (turn made) _ (c .before .made .given .1) (made .make .kept .1 .1 .1 .0)
 
 same-length-2 : tie.Need-same-length-2
 same-length-2 c = search needs
 
 returns-2 : tie.Need-returns-2
-returns-2 c = came-to-a-stop _ _ _ _ _ _ (c .before .before .before .before .before .before .before .before .before .before .before .before .pre .1 .0) (c .before .before .before .before .before .before .before .before .before .before .before .before .pre .1 .1) (rw (c .before .before .before .before .before .before .before .before .present .ensures) at (c .before .before .before .before .before .make .ensures)) _ _ _ (c .before .made2 .given .1)
+returns-2 c = came-to-a-stop (turn (c .before .before .before .before .before)) _ _ (c .before .made2 .given .1)
 
 pub drive-spec : {M : Type 1} → statement M
 drive-spec =
