@@ -8,7 +8,7 @@ use lib.ListN.{length, take}
 use lib.Seq.{length-take-le}
 use Rattle.text_lines.specs.declared.Change.{Change}
 use Rattle.text_lines.specs.declared.Order.the-variants.{Image}
-use Rattle.text.specs.Sheet.{changed, follow}
+use Rattle.text.specs.Sheet.{changed, afterAStep, follow}
 use Rattle.text.specs.Progress.{sheetOf, outcomeOf, countOf, Came, Changed}
 use Rattle.text.specs.declared.sheet.Progress.{Progress}
 use Rattle.text.specs.declared.sheet.Step.the-variants.{On, Stopped}
@@ -24,7 +24,7 @@ module _ (c : Change) (p : Progress) (image steps : List ℕ) (within : p .count
         within = within;
       }
 
-  pub after-a-step : (p .count ≡ 0 → ⊥) → Came (follow (Image c) (sheetOf p image steps)) (Stopped 74) image steps
+  pub after-a-step : (p .count ≡ 0 → ⊥) → Came (follow (Image c) (sheetOf p image steps)) (Stopped afterAStep) image steps
   unfolding follow sheetOf outcomeOf countOf
   after-a-step d =
       record {

@@ -54,27 +54,29 @@ joined a xs rest post k n e f =
     rw (append-assoc xs rest post, ← append-assoc a xs (rest ++ post))
     (take-at (a ++ xs) (rest ++ post) (k + n) (length-append a xs ∙ omega (arith, e, f)))
 
+-- The part of the buffer after the steps so far.
+abbrev pub free : Progress → List ℕ → List ℕ
+free p steps = midOf (p .count) (length steps - p .count) steps
+
 module _ (act : Act) (p : Progress) (image steps : List ℕ) where
-  -- The act's steps, after those so far.
+  -- The act's steps, and its refusal, after the steps so far.
   abbrev pub act-steps : List ℕ
   act-steps = stepsOf act (present (take (p .count) steps)) (getD image attemptsAt 0)
 
-  -- The part of the buffer after the steps so far.
-  abbrev pub free : List ℕ
-  free = midOf (p .count) (length steps - p .count) steps
+  abbrev pub act-refusal : ℕ
+  act-refusal = refusalOf act (present (take (p .count) steps)) (getD image attemptsAt 0)
 
 -- What the maker did there: it answered r and left `after`.
 pub record Turn (act : Act) (p : Progress) (image steps : List ℕ) (r : Made) (after : List ℕ) : Type 0 where
   pub full : length steps ≡ longest
   pub within : p .count ≤ length steps
-  pub acted :
-      Acted (refusalOf act (present (take (p .count) steps)) (getD image attemptsAt 0)) (act-steps act p image steps) (free act p image steps) r after
+  pub acted : Acted (act-refusal act p image steps) (act-steps act p image steps) (free p steps) r after
 
 module _ {act : Act} {p : Progress} {image steps : List ℕ} {r : Made} {after : List ℕ} (t : Turn act p image steps r after) where
   sofar : length (take (p .count) steps) ≡ p .count
   sofar = length-take-le (p .count) steps (t .within)
 
-  free-length : length (free act p image steps) ≡ longest - p .count
+  free-length : length (free p steps) ≡ longest - p .count
   free-length =
       length-take-le (length steps - p .count) (drop (p .count) steps) (omega (arith, length-drop (p .count) steps)) ∙ rw (t .full) refl
 
@@ -83,14 +85,14 @@ module _ {act : Act} {p : Progress} {image steps : List ℕ} {r : Made} {after :
   reached = rw (sofar, t .acted .answer, free-length) refl
 
   module _ (n : ℕ) (e : r ≡ Wrote n) where
-    fitted : Fitted (act-steps act p image steps) (length (free act p image steps)) n
+    fitted : Fitted (act-steps act p image steps) (length (free p steps)) n
     fitted = wrote _ _ n _ (sym (t .acted .answer) ∙ e)
 
     pub more-fits : p .count + n ≤ length steps
     more-fits = omega (arith, fitted .counted, fitted .roomy, free-length, t .full)
 
     pub came-on :
-        length after ≡ length (free act p image steps)
+        length after ≡ length (free p steps)
         → Came
         (driven act (sheetOf p image steps))
         (On (record { fuses = p .fuses; count = p .count + n }))
@@ -98,7 +100,7 @@ module _ {act : Act} {p : Progress} {image steps : List ℕ} {r : Made} {after :
         (putMid (p .count) (length steps - p .count) steps after)
     unfolding added outcomeOf sheetOf countOf inBuffer
     came-on kept =
-        let b : after ≡ act-steps act p image steps ++ drop n (free act p image steps) = t .acted .bytes ∙ rw e refl in
+        let b : after ≡ act-steps act p image steps ++ drop n (free p steps) = t .acted .bytes ∙ rw e refl in
         let all = putMid (p .count) (length steps - p .count) steps after in
         let j : take (p .count + n) all ≡ take (p .count) steps ++ act-steps act p image steps =
         rw b (joined (take (p .count) steps) _ _ _ (p .count) n sofar (fitted .counted)) in

@@ -15,13 +15,14 @@ use Rattle.maker.specs.Act.{made}
 use Rattle.maker.specs.declared.Made.{Made}
 use Rattle.maker.specs.declared.Made.the-variants as maker
 use Rattle.words.specs.Scan.{linesOf}
-use Rattle.text_lines.specs.Orders.{lineOrder}
+use Rattle.text_lines.specs.Orders.{allOnes, lineOrder}
 use Rattle.text_lines.specs.declared.Change.{Change}
 use Rattle.text_lines.specs.declared.Change.the-variants.{Fill, Bytes, Fuses}
 use Rattle.text_lines.specs.declared.Order.{Order}
 use Rattle.text_lines.specs.declared.Order.the-variants.{Nothing, Image, Drive, Wrong}
 use Rattle.text_lines.proofs.Fitting.{Fitting, line-fits}
-use Rattle.text.specs.Sheet.{Sheet, Outcome, Went, Stopped, sheetWith, blankSheet, bytesOf, changedImage, changedFuses, changed, added, driven, follow}
+use Rattle.text.specs.Sheet.{Sheet, Outcome, Went, Stopped, sheetWith, blankSheet, bytesOf, changedImage, changedFuses}
+use Rattle.text.specs.Sheet.{changed, added, afterAStep, driven, follow}
 use Rattle.text.specs.Meaning.{Reading, Whole, Amiss, onward, reading, meaning}
 use Rattle.text.proofs.Driving.{wrote}
 
@@ -47,21 +48,22 @@ module _ (s : Sheet) (h : Sound s) where
       record { image = length-sets (s .image) first (bytesOf count x) ∙ h .image; fuses = h .fuses; steps = h .steps }
   changed-sound (Fuses n) f = record { image = h .image; fuses = f .fuses; steps = h .steps }
 
-  added-sound : (refused : ℕ) (xs : List ℕ) (m : Made) → made refused xs (longest - length (s .steps)) ≡ m → SoundOutcome (added m xs s)
+  added-sound :
+      (refusal : ℕ) (xs : List ℕ) (m : Made) → made refusal xs (longest - length (s .steps)) ≡ m → SoundOutcome (added m xs s)
   unfolding added
-  added-sound refused xs (maker.Wrote n) e =
-      let f = wrote refused (longest - length (s .steps)) n xs e in
+  added-sound refusal xs (maker.Wrote n) e =
+      let f = wrote refusal (longest - length (s .steps)) n xs e in
       let t : Sound (record { image = s .image; fuses = s .fuses; steps = s .steps ++ xs }) =
       record { image = h .image; fuses = h .fuses; steps = omega (arith, length-append (s .steps) xs, f .roomy, h .steps) } in
       went t
-  added-sound refused xs (maker.Refused k) e = stopped
+  added-sound refusal xs (maker.Refused k) e = stopped
 
   follow-sound : (o : Order) → Fitting o → SoundOutcome (follow o s)
   unfolding follow driven
   follow-sound Nothing f = went h
   follow-sound (Image c) f = go (eqb (length (s .steps)) 0)
     where
-      go : (t : Bool) → SoundOutcome (cond t (Went (changed c s)) (Stopped 74))
+      go : (t : Bool) → SoundOutcome (cond t (Went (changed c s)) (Stopped afterAStep))
       go true = went (changed-sound c f)
       go false = stopped
   follow-sound (Drive act) f = added-sound _ _ _ refl
@@ -82,7 +84,8 @@ reading-sound (l ∷ ls) line s h =
 meaning-sound : (text : List ℕ) → SoundReading (meaning text)
 unfolding meaning blankSheet sheetWith
 meaning-sound text =
-    reading-sound (linesOf text) 1 blankSheet (record { image = length-replicate {A = ℕ} bytes 255; fuses = omega arith; steps = omega arith })
+    reading-sound (linesOf text) 1 blankSheet
+    (record { image = length-replicate {A = ℕ} bytes allOnes; fuses = omega arith; steps = omega arith })
 
 pub sound : (text : List ℕ) (s : Sheet) → meaning text ≡ Whole s → Sound s
 sound text s e = go (meaning text) (meaning-sound text) e

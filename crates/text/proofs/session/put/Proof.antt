@@ -23,7 +23,9 @@ same-length : tie.Need-same-length
 same-length c = search needs
 
 returns : tie.Need-returns
-returns c = record { place = refl; bytes = put-at _ _ _ _ _ (c .before .before .before .before .before .before .pre) (c .before .before .raw .ensures) }
+returns c =
+    let start = c .before .before .before .before .before .before in
+    record { place = refl; bytes = put-at _ _ _ _ _ (start .pre) (c .before .before .raw .ensures) }
 
 pub put-spec : {M : Type 1} → statement M
 put-spec =

@@ -10,7 +10,9 @@ same-length : tie.Need-same-length
 same-length c = search needs
 
 returns : tie.Need-returns
-returns c = λ steps h. before-the-steps _ _ _ steps h _ _ (c .before .before .before .before .if1 .taken) (c .before .before .change .ensures)
+returns c =
+    let changed = c .before .before in
+    λ steps h. before-the-steps _ _ _ steps h _ _ (changed .before .before .if1 .taken) (changed .change .ensures)
 
 returns-2 : tie.Need-returns-2
 returns-2 c = λ steps h. after-a-step _ _ _ steps h (c .if1 .left)

@@ -24,14 +24,18 @@ same-length c = search needs
 
 returns : tie.Need-returns
 unfolding changedImage changedFuses
-returns c = rw (c .before .before .before .before .before .c .given .1) (record { bytes = c .before .before .fill-part .ensures; answer = refl })
+returns c =
+    let done = c .before .before in
+    rw (done .before .before .before .c .given .1) (record { bytes = done .fill-part .ensures; answer = refl })
 
 same-length-2 : tie.Need-same-length-2
 same-length-2 c = search needs
 
 returns-2 : tie.Need-returns-2
 unfolding changedImage changedFuses
-returns-2 c = rw (c .before .before .before .before .before .c2 .given .1) (record { bytes = c .before .before .put-bytes .ensures; answer = refl })
+returns-2 c =
+    let done = c .before .before in
+    rw (done .before .before .before .c2 .given .1) (record { bytes = done .put-bytes .ensures; answer = refl })
 
 returns-3 : tie.Need-returns-3
 unfolding changedImage changedFuses

@@ -11,7 +11,8 @@ use Rattle.text.proofs.sheet.drive.Tie as tie
 turn :
     (c : tie.After-make)
     → let start = c .before .before .before .before .before .before .before in
-    Turn (start .args .act) (start .args .p) (now (start .args .image)) (now (start .args .steps)) (c .make .result) (c .make .last .1 .1 .1 .0)
+    let args = start .args in
+    Turn (args .act) (args .p) (now (args .image)) (now (args .steps)) (c .make .result) (c .make .last .1 .1 .1 .0)
 turn c =
     let start = c .before .before .before .before .before .before .before in
     record {

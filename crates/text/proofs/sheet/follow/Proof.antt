@@ -33,7 +33,10 @@ same-length : tie.Need-same-length
 same-length c = search needs
 
 returns-2 : tie.Need-returns-2
-returns-2 c = rw (c .before .before .before .before .before .order .given .1) (c .before .before .arrange .ensures (now (c .before .before .before .before .before .before .before .before .before .args .steps)) (c .before .before .before .before .before .before .before .before .before .pre .1 .1))
+returns-2 c =
+    let arranged = c .before .before in
+    let start = arranged .before .before .before .before .before .before .before in
+    rw (arranged .before .before .before .order .given .1) (arranged .arrange .ensures (now (start .args .steps)) (start .pre .1 .1))
 
 same-length-2 : tie.Need-same-length-2
 same-length-2 c = search needs

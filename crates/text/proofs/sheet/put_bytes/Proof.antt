@@ -45,7 +45,7 @@ loop-again : tie.Need-loop-again Inv-loop μ-loop
 loop-again c =
     let a = c .before .before .before .before .before .args in
     let l = c .before .before .before .loop in (
-      one-byte (l .image) (l .at) (l .left) (a .x) (c .byte-of .result) (c .before .before .loop-test .taken) (c .byte-of .ensures) ∙ l .inv .0,
+      one-byte _ _ _ (a .x) _ (c .before .before .loop-test .taken) (c .byte-of .ensures) ∙ l .inv .0,
       simp length-set (l .inv .1),
     )
 
