@@ -4,7 +4,8 @@ use mathlib.Core.Path.{_≡_, refl}
 use mathlib.Core.Bool.{Bool, true, false, cond, _||_}
 use mathlib.Core.List.{List}
 use lib.Dec.{eqb}
-use Rattle.text_lines.specs.Orders.{the, decimal, coded, numbered}
+use Rattle.text_lines.specs.Orders.{the, numbered}
+use Rattle.text_lines.specs.ByDigits.{decimal, coded}
 use Rattle.text_lines.specs.declared.Order.{Order}
 
 -- A test whose branches are the same.

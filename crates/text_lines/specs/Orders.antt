@@ -99,17 +99,6 @@ unfoldable pub openOrder : List ℕ → Order
 unfolding with-number
 openOrder w = with-number (numberOf true w) (λ n. cond (eqb (length w) 4) (Drive (Open n)) (Wrong unfit))
 
--- `walk`, `lines` and `fuses`: a decimal number.
-unfoldable pub decimal : ℕ → List ℕ → Order
-unfolding the walkOrder linesOrder fusesOrder
-decimal verb w =
-    cond (eqb verb (the "walk")) (walkOrder w) (cond (eqb verb (the "lines")) (linesOrder w) (fusesOrder w))
-
--- `show` and `open`: a code in hex digits.
-unfoldable pub coded : ℕ → List ℕ → Order
-unfolding the showOrder openOrder
-coded verb w = cond (eqb verb (the "show")) (showOrder w) (openOrder w)
-
 -- The lines whose second word is a number.
 unfoldable pub numbered : ℕ → List ℕ → Order
 unfolding the

@@ -4,8 +4,8 @@ use words::Stop;
 ghost use Prim.Native.Nat.{_≤_};
 ghost use mathlib.Core.Path.{_≡_};
 ghost use lib.ListN.{getD};
-ghost use Rattle.text_lines.specs.Orders.{wordCount, alone as aloneOf, either as eitherOf, named as namedOf};
-ghost use Rattle.text_lines.specs.Orders.{decimal as decimalOf, coded as codedOf, numbered as numberedOf};
+ghost use Rattle.text_lines.specs.Orders.{wordCount, alone as aloneOf, either as eitherOf, named as namedOf, numbered as numberedOf};
+ghost use Rattle.text_lines.specs.ByDigits.{decimal as decimalOf, coded as codedOf};
 ghost use Rattle.text_lines.specs.Orders.{firsts, sizes, bytesOrder, byteOrder, zoneOrder, orderOf, wordsOrder, lineOrder};
 
 pub enum Change {

@@ -7,7 +7,7 @@ use Rattle.words.specs.Numbers.{numberOf}
 use Rattle.words.specs.declared.Number.the-variants.{Is}
 use Rattle.words.proofs.Tests.{tests}
 use Rattle.words.proofs.Bounds.{hex-below}
-use Rattle.text_lines.specs.Orders.{coded}
+use Rattle.text_lines.specs.ByDigits.{coded}
 use Rattle.text_lines.proofs.SecondWord.{alike}
 use Rattle.text_lines.proofs.coded.Statement.{statement}
 use Rattle.text_lines.proofs.coded.Tie as tie

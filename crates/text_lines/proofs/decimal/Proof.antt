@@ -5,7 +5,7 @@ use denote.Ref.{now}
 use Rattle.words.specs.Numbers.{numberOf}
 use Rattle.words.specs.declared.Number.the-variants.{Is}
 use Rattle.words.proofs.Tests.{tests}
-use Rattle.text_lines.specs.Orders.{decimal}
+use Rattle.text_lines.specs.ByDigits.{decimal}
 use Rattle.text_lines.proofs.SecondWord.{alike}
 use Rattle.text_lines.proofs.decimal.Statement.{statement}
 use Rattle.text_lines.proofs.decimal.Tie as tie
