@@ -31,6 +31,15 @@ pub record Ready (text : List ℕ) (p : Progress) (image steps : List ℕ) : Typ
   pub image-sized : length image ≡ bytes
   pub steps-sized : length steps ≡ longest
 
+-- Wrong text is told, and changes no byte.
+refused : {text buffer : List ℕ} {line k : ℕ} → Wrong line k ≡ assembled text (length buffer) → Assembles text buffer (Wrong line k) buffer
+unfolding inBuffer
+refused e = record { answer = e; kept = refl; accepted = λ n q. no-session q }
+
+pub too-long : (text buffer : List ℕ) → longestText < length text → Assembles text buffer (Wrong 0 tooLong) buffer
+unfolding assembled
+too-long text buffer h = refused (rw (lt-ltb _ _ h) refl)
+
 module _ {text image steps : List ℕ} {r : Read} (short : Short text) (c : CameThrough (meaning text) r image steps) where
   pub ready : {p : Progress} → r ≡ read.Whole p → length image ≡ bytes → length steps ≡ longest → Ready text p image steps
   unfolding readingOf readCount
@@ -44,14 +53,10 @@ module _ {text image steps : List ℕ} {r : Read} (short : Short text) (c : Came
       }
 
   pub wrong : {line k : ℕ} (buffer : List ℕ) → r ≡ read.Amiss line k → Assembles text buffer (Wrong line k) buffer
-  unfolding readingOf assembled answerTo inBuffer
+  unfolding readingOf assembled answerTo
   wrong {line} {k} buffer e =
       let amiss : meaning text ≡ Amiss line k = sym (c .outcome) ∙ rw e refl in
-      record { answer = rw (le-ltb longestText (length text) short, amiss) refl; kept = refl; accepted = λ n q. no-session q }
-
-pub too-long : (text buffer : List ℕ) → longestText < length text → Assembles text buffer (Wrong 0 tooLong) buffer
-unfolding assembled inBuffer
-too-long text buffer h = record { answer = rw (lt-ltb _ _ h) refl; kept = refl; accepted = λ n e. no-session e }
+      refused (rw (le-ltb longestText (length text) short, amiss) refl)
 
 module _ {text : List ℕ} {p : Progress} {image steps : List ℕ} (y : Ready text p image steps) where
   pub steps-taken : length (take (p .count) steps) ≡ p .count
@@ -63,14 +68,10 @@ module _ {text : List ℕ} {p : Progress} {image steps : List ℕ} (y : Ready te
 
   module _ (buffer : List ℕ) where
     pub no-room : length buffer < stepsAt + p .count → Assembles text buffer (Wrong 0 noRoom) buffer
-    unfolding assembled answerTo inBuffer
+    unfolding assembled answerTo
     no-room h =
         let tight = lt-ltb (length buffer) (length (session (sheetOf p image steps))) (omega (arith, sized, h)) in
-        record {
-          answer = rw (le-ltb longestText (length text) (y .short), y .meant, tight) refl;
-          kept = refl;
-          accepted = λ n q. no-session q;
-        }
+        refused (rw (le-ltb longestText (length text) (y .short), y .meant, tight) refl)
 
     pub done :
         {r : ℕ} {after : List ℕ} → stepsAt + p .count ≤ length buffer
