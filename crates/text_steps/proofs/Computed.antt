@@ -1,4 +1,4 @@
--- The steps as the code computes them, for each level of FUS and I/O.
+-- The steps as the code computes them, for each level of FUS (32) and I/O (16); VCC is 1, CLK 4, PGM 8.
 use Prim.Native.Nat.{ℕ, _+_}
 use mathlib.Core.Bool.{Bool, true, false, cond}
 use mathlib.Core.List.{_∷_, []}
