@@ -271,6 +271,9 @@ module _ {g : Given} {p : ℕ} (ready : Ready g p) (n : ℕ) where
         let goes = vcc-falls (not-false (high VCC l) (sym (t .over) ∙ e)) in
         rw (off-pin e) at (goes-to (withVolatile card (off n)) (goes .none) (goes .there))
 
+    pub power-cut : w .programming ≡ true → Steps g p n (withHalf g (packed (off n))) 1 0
+    power-cut q = vcc-off (t .over ∙ rw (power-on ready q))
+
     module _ (e : high VCC n ≡ true) where
       was-off : high VCC l ≡ false
       was-off = not-true (high VCC l) (sym (t .over) ∙ e)

@@ -37,6 +37,9 @@ module _ (n : ℕ) where
   unfolding all digit
   clk-pgm = by-mask 12 0 (λ vcc rst clk pgm. not clk && not pgm) (omega arith) refl
 
--- One line high and another low.
+-- Two tests that hold; one that holds and another that does not.
+pub both : (a b : Bool) → (a && b) ≡ true → (a ≡ true) × (b ≡ true)
+both a b e = (and-left a b e, and-right a b e)
+
 pub high-low : (a b : Bool) → (a && not b) ≡ true → (a ≡ true) × (b ≡ false)
 high-low a b e = (and-left a (not b) e, not-true b (and-right a (not b) e))

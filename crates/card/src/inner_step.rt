@@ -13,11 +13,15 @@ pub(crate) fn step(v: Volatile, image: &mut [u8], fuses: u8, pin: u8, n: u32) ->
     requires { ⌜ Ready (given (now image) fuses v) pin ⌝ }
     ensures { λ r. ⌜ Leaves (given (now (image .entry)) fuses v) pin n r (now (image .exit)) ⌝ }
 {
-    if v.lines ^ n == 4 {
+    let d = v.lines ^ n;
+    if d == 4 {
         if is_set(v.flags, volatile::PROGRAMMING) {
             return programming::clock(v, image, fuses, pin, n);
         }
         return moved::with_fuses(edges::clock(v, image, fuses, pin, n), fuses);
+    }
+    if (d == 1) & is_set(v.flags, volatile::PROGRAMMING) {
+        return programming::power_falls(v, fuses, n);
     }
     moved::with_fuses(edges::other_than_clock(v, image, fuses, pin, n), fuses)
 }

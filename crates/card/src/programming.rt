@@ -1,4 +1,4 @@
-// CLK falls while programming is under way: the operation takes effect.
+// While programming is under way: CLK falls, and the operation takes effect; VCC falls. No other edge can change image or fuses.
 use crate::moved;
 use crate::moved::Left;
 use memory::is_set;
@@ -10,8 +10,9 @@ ghost use Prim.Native.Nat.{_≤_};
 ghost use lib.Bits.{bitXor};
 ghost use Rattle.memory.specs.Image.{digit};
 ghost use Rattle.rules.specs.Programming.{memoryAfter};
-ghost use Rattle.volatile.specs.Packed.{given};
-ghost use Rattle.card.specs.Moves.{doneBy, programmedCard, Ready, Leaves, leftAs};
+ghost use Rattle.rules.specs.Halves.{off};
+ghost use Rattle.volatile.specs.Packed.{packed, given};
+ghost use Rattle.card.specs.Moves.{doneBy, programmedCard, Ready, Leaves, leftAs, leftBy, moved};
 
 // What an operation leaves beside the image: the fuses, and whether it was a write that turned a 1 into 0.
 pub(crate) struct Done {
@@ -71,4 +72,11 @@ pub(crate) fn clock(v: Volatile, image: &mut [u8], fuses: u8, pin: u8, n: u32) -
         return moved::with_fuses(moved::refused(v, pin, 4), fuses);
     }
     clock_falls(v, image, fuses, n)
+}
+
+// VCC falls: memory unchanged even in the middle of programming.
+pub(crate) fn power_falls(v: Volatile, fuses: u8, n: u32) -> Left
+    ensures { λ r. ⌜ r ≡ leftBy (moved (packed (off n)) 1 0) fuses ⌝ }
+{
+    moved::with_fuses(moved::known(v.power_falls(n), volatile::RELEASED), fuses)
 }

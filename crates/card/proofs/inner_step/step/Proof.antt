@@ -1,4 +1,9 @@
 use mathlib.Core.Path.{sym, _∙_}
+use borrow.Author.Tests.{eqb-true}
+use Rattle.card.proofs.Masks.{both}
+use Rattle.rules.specs.Lines.{VCC, high, place, mask}
+use Rattle.volatile.specs.Packed.{unpacked}
+use Rattle.card.proofs.ByLine.{turned, power-cut}
 use borrow.Author.Needs.{needs}
 use Rattle.card.proofs.inner_step.step.Statement.{statement}
 use Rattle.card.proofs.inner_step.step.Tie as tie
@@ -33,6 +38,21 @@ same-length-2 c = search needs
 returns-2 : tie.Need-returns-2
 returns-2 c = rw (c .with-fuses .ensures) (c .before .clock2 .ensures)
 
+is-set-requires-2 : tie.Need-is-set-requires-2
+is-set-requires-2 c κs = search needs
+
+power-falls-requires : tie.Need-power-falls-requires
+power-falls-requires c κs = search needs
+
+returns-3 : tie.Need-returns-3
+unfolding mask place unpacked
+returns-3 c =
+    let cut = c .before in
+    let start = cut .before .before .before .before .before in
+    let two = both _ _ (cut .if3 .taken) in
+    let programming = sym (cut .before .is-set2 .ensures) ∙ two .1 in
+    rw (c .power-falls .ensures) (power-cut (start .pre) _ (turned (start .pre) _ VCC (eqb-true _ 1 (two .0))) programming)
+
 other-than-clock-requires : tie.Need-other-than-clock-requires
 other-than-clock-requires c κs = search needs
 
@@ -42,8 +62,8 @@ with-fuses-requires-2 c κs = search needs
 same-length-3 : tie.Need-same-length-3
 same-length-3 c = search needs
 
-returns-3 : tie.Need-returns-3
-returns-3 c = rw (c .with-fuses2 .ensures) (c .before .other-than-clock .ensures)
+returns-4 : tie.Need-returns-4
+returns-4 c = rw (c .with-fuses2 .ensures) (c .before .other-than-clock .ensures)
 
 pub step-spec : {M : Type 1} → statement M
 step-spec =
@@ -57,7 +77,10 @@ step-spec =
     with-fuses-requires
     same-length-2
     returns-2
+    is-set-requires-2
+    power-falls-requires
+    returns-3
     other-than-clock-requires
     with-fuses-requires-2
     same-length-3
-    returns-3)
+    returns-4)
