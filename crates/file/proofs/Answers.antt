@@ -8,7 +8,7 @@ use borrow.Author.Tests.{eqb-true, eqb-false}
 use lib.Dec.{eqb}
 use lib.ListN.{length, drop, length-drop}
 use lib.Seq.{length-take-le}
-use Rattle.rules.specs.File.{fuseSection, stepCount, stepSection, sessionRefusal}
+use Rattle.rules.specs.File.{stepsAt, fuseSection, stepCount, stepSection, sessionRefusal}
 use Rattle.file.specs.Opening.{sessionAnswer, handedSteps}
 use Rattle.file.specs.declared.Session.the-variants.{Parts, Refused}
 use Rattle.file.proofs.Refusals.{WholeSession, whole-session}
@@ -21,7 +21,7 @@ pub record Opened (file : List ℕ) (room f n : ℕ) : Type 0 where
   pub handed : handedSteps file room ≡ stepSection file
   pub long : length (stepSection file) ≡ n
 
-section-length : (file : List ℕ) (n : ℕ) → length file ≡ 181 + n → n ≤ length (drop 181 file)
+section-length : (file : List ℕ) (n : ℕ) → length file ≡ stepsAt + n → n ≤ length (drop stepsAt file)
 section-length file n e = simp length-drop (omega arith)
 
 pub opened : (file : List ℕ) (room f n : ℕ) → sessionAnswer file room ≡ Parts f n → Opened file room f n
@@ -41,7 +41,7 @@ opened file room f n e = go (eqb (sessionRefusal file room) 0) refl e
           fuses = cc;
           steps = s;
           handed = rw z refl;
-          long = rw s (length-take-le (stepCount file) (drop 181 file) (section-length file (stepCount file) (w .counted)));
+          long = rw s (length-take-le (stepCount file) (drop stepsAt file) (section-length file (stepCount file) (w .counted)));
         }
     go false z p = let q : _≡_ {A = ℕ} 0 1 = cc in absurd (eqb-false 0 1 refl q)
 

@@ -9,7 +9,7 @@ use lib.Dec.{eqb, ltb}
 use lib.ListN.{length}
 use Rattle.memory.specs.Image.{bytes}
 use Rattle.rules.specs.Refusals.{longest}
-use Rattle.rules.specs.File.{count, fuseSection, stepCount, partsRefusal, cardRefusal, sessionRefusal}
+use Rattle.rules.specs.File.{fuseCountAt, stepCountAt, stepsAt, count, fuseSection, stepCount, partsRefusal, cardRefusal, sessionRefusal}
 use Rattle.rules.proofs.Tests.{peel}
 
 chain :
@@ -31,22 +31,22 @@ unfolding partsRefusal
 parts-first file room more =
     chain
     (not (eqb room bytes))
-    (ltb (length file) 179)
+    (ltb (length file) stepCountAt)
     (not (eqb (count file 0) bytes))
-    (not (eqb (count file 176) 1))
+    (not (eqb (count file fuseCountAt) 1))
     (ltb 7 (fuseSection file))
     more
 
 -- What holds where nothing is refused.
 pub record Whole (file : List ℕ) (room : ℕ) : Type 0 where
   pub sized : room ≡ bytes
-  pub long : 179 ≤ length file
+  pub long : stepCountAt ≤ length file
   pub fused : fuseSection file ≤ 7
 
 pub record WholeSession (file : List ℕ) (room : ℕ) : Type 0 where
   pub parts : Whole file room
   pub few : stepCount file ≤ longest
-  pub counted : length file ≡ 181 + stepCount file
+  pub counted : length file ≡ stepsAt + stepCount file
 
 -- A chain that comes to 0 passed its last test.
 ends : (t : Bool) (k : ℕ) → cond t 0 (suc k) ≡ 0 → t ≡ true
@@ -59,7 +59,7 @@ whole file room more e =
     let p10 = peel _ 9 _ e in
     let p11 = peel _ 10 _ (p10 .1) in
     let p12 = peel (not (eqb (count file 0) bytes)) 11 _ (p11 .1) in
-    let p13 = peel (not (eqb (count file 176) 1)) 12 _ (p12 .1) in
+    let p13 = peel (not (eqb (count file fuseCountAt) 1)) 12 _ (p12 .1) in
     let p14 = peel _ 13 _ (p13 .1) in (
       record {
         sized = eqb-true _ _ (not-false _ (p10 .0));
@@ -77,6 +77,6 @@ pub whole-session : (file : List ℕ) (room : ℕ) → sessionRefusal file room 
 unfolding sessionRefusal
 whole-session file room e =
     let w = whole file room _ e in
-    let p15 = peel (ltb (length file) 181) 14 _ (w .1) in
+    let p15 = peel (ltb (length file) stepsAt) 14 _ (w .1) in
     let p16 = peel _ 15 _ (p15 .1) in
     record { parts = w .0; few = ltb-false _ _ (p16 .0); counted = eqb-true _ _ (ends _ 16 (p16 .1)) }

@@ -6,7 +6,7 @@ use mathlib.Core.List.{List, []}
 use denote.Ref.{RefT, now}
 use lib.Dec.{eqb}
 use lib.ListN.{length}
-use Rattle.rules.specs.File.{memorySection, fuseSection, stepCount, stepSection, cardRefusal, sessionRefusal}
+use Rattle.rules.specs.File.{stepsAt, memorySection, fuseSection, stepCount, stepSection, cardRefusal, sessionRefusal}
 use Rattle.file.specs.declared.CardFile.{CardFile}
 use Rattle.file.specs.declared.CardFile.the-variants as card
 use Rattle.file.specs.declared.Session.{Session}
@@ -69,7 +69,7 @@ handedSteps file room = cond (eqb (sessionRefusal file room) 0) (stepSection fil
 -- Where in the session that part starts.
 unfoldable pub handedFrom : List ℕ → ℕ → ℕ
 unfolding sessionRefusal
-handedFrom file room = cond (eqb (sessionRefusal file room) 0) 181 0
+handedFrom file room = cond (eqb (sessionRefusal file room) 0) stepsAt 0
 
 -- The thin call's promise: the bytes, and that they are no copy but lie in the caller's own block of memory, from that place on.
 pub record Handed (file : RefT (List ℕ)) (room : ℕ) (r : RefT (List ℕ)) : Type 0 where

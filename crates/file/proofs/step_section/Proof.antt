@@ -4,7 +4,7 @@ use native.Mathlib.Omega.{arith}
 use borrow.Author.Tests.{eq-eqb, ne-eqb}
 use denote.Ref.{now}
 use lib.ListN.{take, drop}
-use Rattle.rules.specs.File.{stepCount}
+use Rattle.rules.specs.File.{stepsAt, stepCount}
 use Rattle.file.specs.Opening.{handedSteps, handedFrom}
 use Rattle.file.proofs.Refusals.{WholeSession, whole-session}
 use borrow.Author.Needs.{needs}
@@ -39,7 +39,7 @@ returns-2 c =
     let z = eq-eqb _ 0 (c .before .before .if1 .left) in
     record {
       bytes =
-          ap (λ (n : ℕ). take n (drop 181 f)) (less 181 (c .before .count .result)) ∙ rw (← e, z, c .before .count .ensures .0) refl;
+          ap (λ (n : ℕ). take n (drop stepsAt f)) (less stepsAt (c .before .count .result)) ∙ rw (← e, z, c .before .count .ensures .0) refl;
       block = refl;
       offset = rw (← e, z) refl;
     }

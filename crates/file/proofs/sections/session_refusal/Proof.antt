@@ -8,7 +8,7 @@ use borrow.Author.Tests.{lt-ltb, le-ltb, eq-eqb, ne-eqb}
 use denote.Ref.{now}
 use lib.Dec.{eqb, ltb}
 use lib.ListN.{length}
-use Rattle.rules.specs.File.{sessionRefusal}
+use Rattle.rules.specs.File.{stepsAt, sessionRefusal}
 use Rattle.rules.specs.Refusals.{longest}
 use Rattle.file.proofs.Refusals.{parts-first}
 use Rattle.file.proofs.sections.session_refusal.Statement.{statement}
@@ -19,7 +19,7 @@ counted :
     (c : tie.After-count) →
     let args = c .before .before .before .before .before .args in
     sessionRefusal (now (args .file)) (args .room) ≡
-    cond (ltb longest (c .count .result)) 16 (cond (eqb (length (now (args .file))) (181 + c .count .result)) 0 17)
+    cond (ltb longest (c .count .result)) 16 (cond (eqb (length (now (args .file))) (stepsAt + c .count .result)) 0 17)
 unfolding sessionRefusal
 counted c =
     let long = c .before in
