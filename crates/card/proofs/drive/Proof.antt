@@ -17,15 +17,9 @@ Inv-loop image₀ fuses steps answers₀ f₀ s₀ p₀ i₀ image answers f s p
 abbrev μ-loop : tie.MeasureT-loop
 μ-loop image₀ fuses steps answers₀ f₀ s₀ p₀ i₀ image answers f s p i = length steps - i
 
-pin-requires : tie.Need-pin-requires Inv-loop μ-loop
-pin-requires c κs = search needs
-
 loop-holds : tie.Need-loop-holds Inv-loop μ-loop
 unfolding pin unpacked
 loop-holds c = starts _ _ _ _ (c .before .before .before .before .before .pre) (c .pin .ensures)
-
-shared-slice-read-step : tie.Need-shared-slice-read-step Inv-loop μ-loop
-shared-slice-read-step c = search needs
 
 cast-step : tie.Need-cast-step Inv-loop μ-loop
 cast-step c = record { fits = lt-of-lt-of-le (c .shared-slice-known2 .given _ .fits) (lit≤ tt) }
@@ -83,9 +77,9 @@ drive-spec =
     (tie.spec
     Inv-loop
     μ-loop
-    pin-requires
+    (λ c κs. search needs)
     loop-holds
-    shared-slice-read-step
+    (λ c. search needs)
     cast-step
     step-requires
     same-length

@@ -5,24 +5,9 @@ use borrow.Author.Needs.{needs}
 use Rattle.card.proofs.flags.Statement.{statement}
 use Rattle.card.proofs.flags.Tie as tie
 
-made-up-requires : tie.Need-made-up-requires
-made-up-requires c κs = search needs
-
 returns : tie.Need-returns
 unfolding flagsOf
 returns c = rw (sym (c .before .made-up .ensures) ∙ c .if1 .taken)
-
-is-set-requires : tie.Need-is-set-requires
-is-set-requires c κs = search needs
-
-is-set-requires-2 : tie.Need-is-set-requires-2
-is-set-requires-2 c κs = search needs
-
-is-set-requires-3 : tie.Need-is-set-requires-3
-is-set-requires-3 c κs = search needs
-
-is-set-requires-4 : tie.Need-is-set-requires-4
-is-set-requires-4 c κs = search needs
 
 returns-2 : tie.Need-returns-2
 unfolding flagsOf unpacked
@@ -32,10 +17,10 @@ pub flags-spec : {M : Type 1} → statement M
 flags-spec =
     tie.close
     (tie.spec
-    made-up-requires
+    (λ c κs. search needs)
     returns
-    is-set-requires
-    is-set-requires-2
-    is-set-requires-3
-    is-set-requires-4
+    (λ c κs. search needs)
+    (λ c κs. search needs)
+    (λ c κs. search needs)
+    (λ c κs. search needs)
     returns-2)

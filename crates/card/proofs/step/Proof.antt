@@ -4,19 +4,10 @@ use borrow.Author.Needs.{needs}
 use Rattle.card.proofs.step.Statement.{statement}
 use Rattle.card.proofs.step.Tie as tie
 
-step-told-requires : tie.Need-step-told-requires
-step-told-requires c κs = search needs
-
-same-length : tie.Need-same-length
-same-length c = search needs
-
 returns : tie.Need-returns
 returns c =
     let told = c .before .before .before .before .before .step-told .ensures in
     record { card = told .card; answer = rw (told .refusal) (refused-as _ (rw (told .refusal) at (c .if1 .taken))) }
-
-same-length-2 : tie.Need-same-length-2
-same-length-2 c = search needs
 
 returns-2 : tie.Need-returns-2
 returns-2 c =
@@ -24,4 +15,4 @@ returns-2 c =
     record { card = told .card; answer = rw (told .pin) (pinned-as _ _ (sym (told .refusal) ∙ c .if1 .left)) }
 
 pub step-spec : {M : Type 1} → statement M
-step-spec = tie.close (tie.spec step-told-requires same-length returns same-length-2 returns-2)
+step-spec = tie.close (tie.spec (λ c κs. search needs) (λ c. search needs) returns (λ c. search needs) returns-2)

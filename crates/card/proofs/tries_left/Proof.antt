@@ -11,12 +11,9 @@ returns : tie.Need-returns
 unfolding triesLeft onesIn
 returns c = rw (List·getD-eq-default (now (c .before .args .image)) 0 (c .if1 .taken))
 
-shared-slice-read-result : tie.Need-shared-slice-read-result
-shared-slice-read-result c = search needs
-
 returns-2 : tie.Need-returns-2
 unfolding triesLeft
 returns-2 c = ones-of-byte (getD (now (c .before .before .args .image)) 12 0) (c .shared-slice-known .given 12 .fits)
 
 pub tries-left-spec : {M : Type 1} → statement M
-tries-left-spec = tie.close (tie.spec returns shared-slice-read-result returns-2)
+tries-left-spec = tie.close (tie.spec returns (λ c. search needs) returns-2)

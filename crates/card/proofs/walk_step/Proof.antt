@@ -6,37 +6,19 @@ use borrow.Author.Needs.{needs}
 use Rattle.card.proofs.walk_step.Statement.{statement}
 use Rattle.card.proofs.walk_step.Tie as tie
 
-none-requires : tie.Need-none-requires
-none-requires c κs = search needs
-
 returns : tie.Need-returns
 returns c = rw (c .none .ensures) (not-still _ _ (c .before .if1 .taken))
-
-is-calm-requires : tie.Need-is-calm-requires
-is-calm-requires c κs = search needs
-
-none-requires-2 : tie.Need-none-requires-2
-none-requires-2 c κs = search needs
 
 returns-2 : tie.Need-returns-2
 returns-2 c =
     let asked = c .before in
     rw (c .none2 .ensures) (not-calm _ _ (sym (asked .before .is-calm .ensures) ∙ not-true (asked .before .is-calm .result) (asked .if2 .taken)))
 
-none-requires-3 : tie.Need-none-requires-3
-none-requires-3 c κs = search needs
-
 returns-3 : tie.Need-returns-3
 returns-3 c = rw (c .none3 .ensures) (too-far _ _ (c .before .if3 .taken))
 
-none-requires-4 : tie.Need-none-requires-4
-none-requires-4 c κs = search needs
-
 returns-4 : tie.Need-returns-4
 returns-4 c = rw (c .none4 .ensures) (not-sized _ _ (c .before .if4 .taken))
-
-none-requires-5 : tie.Need-none-requires-5
-none-requires-5 c κs = search needs
 
 returns-5 : tie.Need-returns-5
 returns-5 c = rw (c .none5 .ensures) (not-fused _ _ (c .before .if5 .taken))
@@ -63,16 +45,16 @@ pub walk-step-spec : {M : Type 1} → statement M
 walk-step-spec =
     tie.close
     (tie.spec
-    none-requires
+    (λ c κs. search needs)
     returns
-    is-calm-requires
-    none-requires-2
+    (λ c κs. search needs)
+    (λ c κs. search needs)
     returns-2
-    none-requires-3
+    (λ c κs. search needs)
     returns-3
-    none-requires-4
+    (λ c κs. search needs)
     returns-4
-    none-requires-5
+    (λ c κs. search needs)
     returns-5
     comes-to-requires
     returns-6)

@@ -7,9 +7,6 @@ use Rattle.console.proofs.outcome_of.Tie as tie
 returns : tie.Need-returns
 returns c = failed _ _ (rw (toZ-ofZ _ _ (c .before .before .fits .got)) at (c .if1 .taken))
 
-count-requires : tie.Need-count-requires
-count-requires c κs = search needs
-
 returns-2 : tie.Need-returns-2
 returns-2 c =
     let read-back = toZ-ofZ _ _ (c .before .before .before .before .fits .got) in
@@ -21,4 +18,4 @@ returns-3 c =
     more _ _ _ (rw read-back at (c .before .before .if1 .left)) (rw read-back at (c .before .count .ensures .1)) (c .if2 .left)
 
 pub outcome-of-spec : {M : Type 1} → statement M
-outcome-of-spec = tie.close (tie.spec returns count-requires returns-2 returns-3)
+outcome-of-spec = tie.close (tie.spec returns (λ c κs. search needs) returns-2 returns-3)

@@ -11,30 +11,6 @@ use Rattle.fresh_run.proofs.Laws.{from-fresh, text-of, not-long}
 use Rattle.fresh_run.proofs.report.Statement.{statement}
 use Rattle.fresh_run.proofs.report.Tie as tie
 
-fresh-requires : tie.Need-fresh-requires
-fresh-requires c κs = search needs
-
-slice-aggregate-run : tie.Need-slice-aggregate-run
-slice-aggregate-run c = search needs
-
-run-requires : tie.Need-run-requires
-run-requires c κs = search needs
-
-tries-left-requires : tie.Need-tries-left-requires
-tries-left-requires c κs = search needs
-
-slice-aggregate-four-lines : tie.Need-slice-aggregate-four-lines
-slice-aggregate-four-lines c = search needs
-
-four-lines-requires : tie.Need-four-lines-requires
-four-lines-requires c κs = search needs
-
-same-length : tie.Need-same-length
-same-length c = search needs
-
-same-length-2 : tie.Need-same-length-2
-same-length-2 c = search needs
-
 returns : tie.Need-returns
 returns c =
     let args = c .before .before .before .before .before .before .before .before .before .before .before .before .before .before .before .before .before .args in
@@ -54,12 +30,12 @@ pub report-spec : {M : Type 1} → statement M
 report-spec =
     tie.close
     (tie.spec
-    fresh-requires
-    slice-aggregate-run
-    run-requires
-    tries-left-requires
-    slice-aggregate-four-lines
-    four-lines-requires
-    same-length
-    same-length-2
+    (λ c κs. search needs)
+    (λ c. search needs)
+    (λ c κs. search needs)
+    (λ c κs. search needs)
+    (λ c. search needs)
+    (λ c κs. search needs)
+    (λ c. search needs)
+    (λ c. search needs)
     returns)

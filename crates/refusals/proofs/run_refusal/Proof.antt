@@ -4,9 +4,6 @@ use Rattle.refusals.proofs.Laws.{state-first, over-long, no-room, all-w
 use Rattle.refusals.proofs.run_refusal.Statement.{statement}
 use Rattle.refusals.proofs.run_refusal.Tie as tie
 
-state-refusal-requires : tie.Need-state-refusal-requires
-state-refusal-requires c κs = search needs
-
 returns : tie.Need-returns
 returns c = sym (state-first _ _ _ _ (sym (c .before .state-refusal .ensures)) (c .if1 .taken))
 
@@ -24,4 +21,4 @@ returns-4 c =
     sym (all-well _ _ _ (sym (long .before .before .state-refusal .ensures) ∙ long .before .if1 .left) (long .if2 .left) (c .if3 .left))
 
 pub run-refusal-spec : {M : Type 1} → statement M
-run-refusal-spec = tie.close (tie.spec state-refusal-requires returns returns-2 returns-3 returns-4)
+run-refusal-spec = tie.close (tie.spec (λ c κs. search needs) returns returns-2 returns-3 returns-4)

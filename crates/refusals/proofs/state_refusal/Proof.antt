@@ -13,9 +13,6 @@ returns-2 : tie.Need-returns-2
 unfolding givenRefusal
 returns-2 c = rw (eq-eqb _ 174 (c .before .if1 .left), lt-ltb 7 _ (c .if2 .taken))
 
-made-up-by-clause-requires : tie.Need-made-up-by-clause-requires
-made-up-by-clause-requires c κs = search needs
-
 returns-3 : tie.Need-returns-3
 unfolding givenRefusal
 returns-3 c =
@@ -29,4 +26,4 @@ returns-4 c =
     rw (eq-eqb _ 174 (few .before .if1 .left), le-ltb 7 _ (few .if2 .left), sym (c .before .made-up-by-clause .ensures) ∙ c .if3 .left)
 
 pub state-refusal-spec : {M : Type 1} → statement M
-state-refusal-spec = tie.close (tie.spec returns returns-2 made-up-by-clause-requires returns-3 returns-4)
+state-refusal-spec = tie.close (tie.spec returns returns-2 (λ c κs. search needs) returns-3 returns-4)

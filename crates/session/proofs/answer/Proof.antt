@@ -7,26 +7,8 @@ use Rattle.session.proofs.Laws.{refused-text, opened-text}
 use Rattle.session.proofs.answer.Statement.{statement}
 use Rattle.session.proofs.answer.Tie as tie
 
-slice-aggregate-open-session : tie.Need-slice-aggregate-open-session
-slice-aggregate-open-session c = search needs
-
-open-session-requires : tie.Need-open-session-requires
-open-session-requires c κs = search needs
-
-enum-known-opened : tie.Need-enum-known-opened
-enum-known-opened c = search needs
-
 enum-told : tie.Need-enum-told
 enum-told c = search needs
-
-number-requires : tie.Need-number-requires
-number-requires c κs = search needs
-
-bad-requires : tie.Need-bad-requires
-bad-requires c κs = search needs
-
-same-length : tie.Need-same-length
-same-length c = search needs
 
 returns : tie.Need-returns
 unfolding sessionNumber
@@ -34,18 +16,6 @@ returns c =
     let told = c .before .before .before .before .before .enum-told .given .1 in
     let answered = sym (c .before .before .before .before .before .before .before .before .open-session .ensures .answer) ∙ told in
     rw (c .before .before .before .before .number .ensures ∙ ap sessionNumber told, refused-text _ _ answered) at (c .before .before .bad .ensures)
-
-step-section-requires : tie.Need-step-section-requires
-step-section-requires c κs = search needs
-
-slice-aggregate-report : tie.Need-slice-aggregate-report
-slice-aggregate-report c = search needs
-
-report-requires : tie.Need-report-requires
-report-requires c κs = search needs
-
-same-length-2 : tie.Need-same-length-2
-same-length-2 c = search needs
 
 returns-2 : tie.Need-returns-2
 unfolding sessionNumber inMemory
@@ -62,16 +32,16 @@ pub answer-spec : {M : Type 1} → statement M
 answer-spec =
     tie.close
     (tie.spec
-    slice-aggregate-open-session
-    open-session-requires
-    enum-known-opened
+    (λ c. search needs)
+    (λ c κs. search needs)
+    (λ c. search needs)
     enum-told
-    number-requires
-    bad-requires
-    same-length
+    (λ c κs. search needs)
+    (λ c κs. search needs)
+    (λ c. search needs)
     returns
-    step-section-requires
-    slice-aggregate-report
-    report-requires
-    same-length-2
+    (λ c κs. search needs)
+    (λ c. search needs)
+    (λ c κs. search needs)
+    (λ c. search needs)
     returns-2)

@@ -3,9 +3,6 @@ use Rattle.file.specs.Opening.{sessionNumber}
 use Rattle.session.proofs.number.Statement.{statement}
 use Rattle.session.proofs.number.Tie as tie
 
-enum-known-opened : tie.Need-enum-known-opened
-enum-known-opened c = search needs
-
 enum-told : tie.Need-enum-told
 enum-told c = search needs
 
@@ -18,4 +15,4 @@ unfolding sessionNumber
 returns-2 c = rw (c .before .opened .given .1)
 
 pub number-spec : {M : Type 1} → statement M
-number-spec = tie.close (tie.spec enum-known-opened enum-told returns returns-2)
+number-spec = tie.close (tie.spec (λ c. search needs) enum-told returns returns-2)

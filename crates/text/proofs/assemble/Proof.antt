@@ -23,29 +23,11 @@ reached c =
 returns : tie.Need-returns
 returns c = too-long _ _ (c .if1 .taken)
 
-slice-aggregate-read-lines : tie.Need-slice-aggregate-read-lines
-slice-aggregate-read-lines c = search needs
-
-slice-aggregate-read-lines-2 : tie.Need-slice-aggregate-read-lines-2
-slice-aggregate-read-lines-2 c = search needs
-
-read-lines-requires : tie.Need-read-lines-requires
-read-lines-requires c κs = search needs
-
-enum-known-read : tie.Need-enum-known-read
-enum-known-read c = search needs
-
-enum-known-read-2 : tie.Need-enum-known-read-2
-enum-known-read-2 c = search needs
-
 add-if2 : tie.Need-add-if2
 add-if2 c = omega (arith, reached c)
 
 returns-2 : tie.Need-returns-2
 returns-2 c = no-room (reached (c .before)) _ (c .if2 .taken)
-
-slice-aggregate-write : tie.Need-slice-aggregate-write
-slice-aggregate-write c = search needs
 
 array-share-prefix-steps : tie.Need-array-share-prefix-steps
 array-share-prefix-steps c = reached (c .before .before) .within
@@ -64,9 +46,6 @@ returns-3 c =
     let lines = c .before .before .before .before .before in
     wrong (lines .before .before .before .if1 .left) (lines .read-lines .ensures) _ (c .before .read .given .1)
 
-same-length : tie.Need-same-length
-same-length c = search needs
-
 returns-4 : tie.Need-returns-4
 returns-4 c =
     let roomy = c .before .before .before .before .before .before in
@@ -77,17 +56,17 @@ assemble-spec =
     tie.close
     (tie.spec
     returns
-    slice-aggregate-read-lines
-    slice-aggregate-read-lines-2
-    read-lines-requires
-    enum-known-read
-    enum-known-read-2
+    (λ c. search needs)
+    (λ c. search needs)
+    (λ c κs. search needs)
+    (λ c. search needs)
+    (λ c. search needs)
     add-if2
     returns-2
-    slice-aggregate-write
+    (λ c. search needs)
     array-share-prefix-steps
     slice-aggregate-write-2
     write-requires
     returns-3
-    same-length
+    (λ c. search needs)
     returns-4)

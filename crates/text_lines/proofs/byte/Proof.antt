@@ -13,12 +13,6 @@ use Rattle.text_lines.proofs.byte.Tie as tie
 known : (c : tie.After-at) → numberOf false (now (c .before .before .before .before .before .args .object)) ≡ Is (c .at .given .0 .0)
 known c = sym (c .before .before .numeral .ensures) ∙ c .at .given .1
 
-numeral-requires : tie.Need-numeral-requires
-numeral-requires c κs = search needs
-
-enum-known-at : tie.Need-enum-known-at
-enum-known-at c = search needs
-
 enum-told : tie.Need-enum-told
 enum-told c = search needs
 
@@ -30,9 +24,6 @@ returns-2 : tie.Need-returns-2
 unfolding byteOrder
 returns-2 c = rw (known (c .before .before)) (search tests)
 
-bytes-requires : tie.Need-bytes-requires
-bytes-requires c κs = search needs
-
 returns-3 : tie.Need-returns-3
 unfolding byteOrder
 returns-3 c = rw (known (c .before .before .before)) (search (tests, c .bytes .ensures))
@@ -41,10 +32,10 @@ pub byte-spec : {M : Type 1} → statement M
 byte-spec =
     tie.close
     (tie.spec
-    numeral-requires
-    enum-known-at
+    (λ c κs. search needs)
+    (λ c. search needs)
     enum-told
     returns
     returns-2
-    bytes-requires
+    (λ c κs. search needs)
     returns-3)

@@ -13,12 +13,6 @@ use Rattle.text_lines.proofs.bytes.Tie as tie
 known : (c : tie.After-value) → numberOf true (now (c .before .before .before .before .args .w)) ≡ Is (c .value .given .0 .0)
 known c = sym (c .before .before .numeral .ensures) ∙ c .value .given .1
 
-numeral-requires : tie.Need-numeral-requires
-numeral-requires c κs = search needs
-
-enum-known-value : tie.Need-enum-known-value
-enum-known-value c = search needs
-
 enum-told : tie.Need-enum-told
 enum-told c = search needs
 
@@ -41,4 +35,4 @@ returns-4 c = rw (known (c .before .before .before)) (search tests)
 pub bytes-spec : {M : Type 1} → statement M
 bytes-spec =
     tie.close
-    (tie.spec numeral-requires enum-known-value enum-told returns returns-2 returns-3 returns-4)
+    (tie.spec (λ c κs. search needs) (λ c. search needs) enum-told returns returns-2 returns-3 returns-4)

@@ -16,12 +16,6 @@ use Rattle.text_lines.proofs.coded.Tie as tie
 known : (c : tie.After-n) → numberOf true (now (c .before .before .before .before .args .w)) ≡ Is (c .n .given .0 .0)
 known c = sym (c .before .before .numeral .ensures) ∙ c .n .given .1
 
-numeral-requires : tie.Need-numeral-requires
-numeral-requires c κs = search needs
-
-enum-known-n : tie.Need-enum-known-n
-enum-known-n c = search needs
-
 enum-told : tie.Need-enum-told
 enum-told c = search needs
 
@@ -59,8 +53,8 @@ pub coded-spec : {M : Type 1} → statement M
 coded-spec =
     tie.close
     (tie.spec
-    numeral-requires
-    enum-known-n
+    (λ c κs. search needs)
+    (λ c. search needs)
     enum-told
     returns
     cast-code

@@ -14,12 +14,6 @@ use Rattle.text_lines.proofs.decimal.Tie as tie
 known : (c : tie.After-n) → numberOf false (now (c .before .before .before .before .args .w)) ≡ Is (c .n .given .0 .0)
 known c = sym (c .before .before .numeral .ensures) ∙ c .n .given .1
 
-numeral-requires : tie.Need-numeral-requires
-numeral-requires c κs = search needs
-
-enum-known-n : tie.Need-enum-known-n
-enum-known-n c = search needs
-
 enum-told : tie.Need-enum-told
 enum-told c = search needs
 
@@ -35,9 +29,6 @@ returns-3 : tie.Need-returns-3
 unfolding decimal
 returns-3 c = rw (known (c .before .before .before .before)) (search tests)
 
-cast-t9 : tie.Need-cast-t9
-cast-t9 c = search needs
-
 returns-4 : tie.Need-returns-4
 unfolding decimal
 returns-4 c = rw (known (c .before .before .before .before)) (search tests)
@@ -45,9 +36,6 @@ returns-4 c = rw (known (c .before .before .before .before)) (search tests)
 returns-5 : tie.Need-returns-5
 unfolding decimal
 returns-5 c = rw (known (c .before .before .before .before)) (search tests)
-
-cast-t11 : tie.Need-cast-t11
-cast-t11 c = search needs
 
 returns-6 : tie.Need-returns-6
 unfolding decimal
@@ -57,14 +45,14 @@ pub decimal-spec : {M : Type 1} → statement M
 decimal-spec =
     tie.close
     (tie.spec
-    numeral-requires
-    enum-known-n
+    (λ c κs. search needs)
+    (λ c. search needs)
     enum-told
     returns
     returns-2
     returns-3
-    cast-t9
+    (λ c. search needs)
     returns-4
     returns-5
-    cast-t11
+    (λ c. search needs)
     returns-6)

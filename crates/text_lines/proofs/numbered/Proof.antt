@@ -4,19 +4,13 @@ use Rattle.text_lines.proofs.SecondWord.{by-digits}
 use Rattle.text_lines.proofs.numbered.Statement.{statement}
 use Rattle.text_lines.proofs.numbered.Tie as tie
 
-decimal-requires : tie.Need-decimal-requires
-decimal-requires c κs = search needs
-
 returns : tie.Need-returns
 unfolding the
 returns c = rw (by-digits _ _, c .before .if1 .taken) (c .decimal .ensures)
-
-coded-requires : tie.Need-coded-requires
-coded-requires c κs = search needs
 
 returns-2 : tie.Need-returns-2
 unfolding the
 returns-2 c = rw (by-digits _ _, c .before .if1 .left) (c .coded .ensures)
 
 pub numbered-spec : {M : Type 1} → statement M
-numbered-spec = tie.close (tie.spec decimal-requires returns coded-requires returns-2)
+numbered-spec = tie.close (tie.spec (λ c κs. search needs) returns (λ c κs. search needs) returns-2)

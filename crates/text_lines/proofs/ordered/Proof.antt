@@ -12,9 +12,6 @@ returns-2 : tie.Need-returns-2
 unfolding orderOf
 returns-2 c = search tests
 
-alone-requires : tie.Need-alone-requires
-alone-requires c κs = search needs
-
 returns-3 : tie.Need-returns-3
 unfolding orderOf
 returns-3 c = search (tests, c .alone .ensures)
@@ -23,18 +20,9 @@ returns-4 : tie.Need-returns-4
 unfolding orderOf
 returns-4 c = search tests
 
-row-requires : tie.Need-row-requires
-row-requires c κs = search needs
-
-named-requires : tie.Need-named-requires
-named-requires c κs = search needs
-
 returns-5 : tie.Need-returns-5
 unfolding orderOf
 returns-5 c = search (tests, rw (c .before .row .ensures) at (c .named .ensures))
-
-numbered-requires : tie.Need-numbered-requires
-numbered-requires c κs = search needs
 
 returns-6 : tie.Need-returns-6
 unfolding orderOf
@@ -44,18 +32,9 @@ returns-7 : tie.Need-returns-7
 unfolding orderOf
 returns-7 c = search tests
 
-byte-requires : tie.Need-byte-requires
-byte-requires c κs = search needs
-
 returns-8 : tie.Need-returns-8
 unfolding orderOf
 returns-8 c = search (tests, c .byte .ensures)
-
-row-requires-2 : tie.Need-row-requires-2
-row-requires-2 c κs = search needs
-
-zone-requires : tie.Need-zone-requires
-zone-requires c κs = search needs
 
 returns-9 : tie.Need-returns-9
 unfolding orderOf
@@ -71,18 +50,18 @@ ordered-spec =
     (tie.spec
     returns
     returns-2
-    alone-requires
+    (λ c κs. search needs)
     returns-3
     returns-4
-    row-requires
-    named-requires
+    (λ c κs. search needs)
+    (λ c κs. search needs)
     returns-5
-    numbered-requires
+    (λ c κs. search needs)
     returns-6
     returns-7
-    byte-requires
+    (λ c κs. search needs)
     returns-8
-    row-requires-2
-    zone-requires
+    (λ c κs. search needs)
+    (λ c κs. search needs)
     returns-9
     returns-10)

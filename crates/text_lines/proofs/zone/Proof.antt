@@ -12,18 +12,6 @@ returns-2 : tie.Need-returns-2
 unfolding zoneOrder
 returns-2 c = search tests
 
-first-byte-requires : tie.Need-first-byte-requires
-first-byte-requires c κs = search needs
-
-byte-count-requires : tie.Need-byte-count-requires
-byte-count-requires c κs = search needs
-
-row-requires : tie.Need-row-requires
-row-requires c κs = search needs
-
-filling-requires : tie.Need-filling-requires
-filling-requires c κs = search needs
-
 returns-3 : tie.Need-returns-3
 unfolding zoneOrder
 returns-3 c =
@@ -32,9 +20,6 @@ returns-3 c =
     rw (← read .row .ensures, ← placed .first-byte .ensures, ← read .before .byte-count .ensures)
     (search (tests, placed .before .if2 .left, placed .before .before .if1 .left, c .filling .ensures))
 
-filling-requires-2 : tie.Need-filling-requires-2
-filling-requires-2 c κs = search needs
-
 returns-4 : tie.Need-returns-4
 unfolding zoneOrder
 returns-4 c =
@@ -42,9 +27,6 @@ returns-4 c =
     let placed = read .before .before in
     rw (← read .row .ensures, ← placed .first-byte .ensures, ← read .before .byte-count .ensures)
     (search (tests, placed .before .if2 .left, placed .before .before .if1 .left, c .filling2 .ensures))
-
-bytes-requires : tie.Need-bytes-requires
-bytes-requires c κs = search needs
 
 returns-5 : tie.Need-returns-5
 unfolding zoneOrder
@@ -60,12 +42,12 @@ zone-spec =
     (tie.spec
     returns
     returns-2
-    first-byte-requires
-    byte-count-requires
-    row-requires
-    filling-requires
+    (λ c κs. search needs)
+    (λ c κs. search needs)
+    (λ c κs. search needs)
+    (λ c κs. search needs)
     returns-3
-    filling-requires-2
+    (λ c κs. search needs)
     returns-4
-    bytes-requires
+    (λ c κs. search needs)
     returns-5)

@@ -5,15 +5,6 @@ use borrow.Author.Needs.{needs}
 use Rattle.text_steps.proofs.make.Statement.{statement}
 use Rattle.text_steps.proofs.make.Tie as tie
 
-starts-at-requires : tie.Need-starts-at-requires
-starts-at-requires c κs = search needs
-
-made-requires : tie.Need-made-requires
-made-requires c κs = search needs
-
-same-length : tie.Need-same-length
-same-length c = search needs
-
 returns : tie.Need-returns
 unfolding refusalOf
 returns c =
@@ -25,4 +16,4 @@ unfolding refusalOf made inBuffer
 returns-2 c = rw (← c .before .starts-at .ensures, c .if1 .left) (record { answer = refl; bytes = refl })
 
 pub make-spec : {M : Type 1} → statement M
-make-spec = tie.close (tie.spec starts-at-requires made-requires same-length returns returns-2)
+make-spec = tie.close (tie.spec (λ c κs. search needs) (λ c κs. search needs) (λ c. search needs) returns returns-2)

@@ -4,38 +4,8 @@ use borrow.Author.Needs.{needs}
 use Rattle.text_steps.proofs.starts_at.Statement.{statement}
 use Rattle.text_steps.proofs.starts_at.Tie as tie
 
-enum-known-act : tie.Need-enum-known-act
-enum-known-act c = search needs
-
 enum-told : tie.Need-enum-told
 enum-told c = search needs
-
-enum-told-2 : tie.Need-enum-told-2
-enum-told-2 c = search needs
-
-enum-told-3 : tie.Need-enum-told-3
-enum-told-3 c = search needs
-
-enum-told-4 : tie.Need-enum-told-4
-enum-told-4 c = search needs
-
-enum-told-5 : tie.Need-enum-told-5
-enum-told-5 c = search needs
-
-enum-told-6 : tie.Need-enum-told-6
-enum-told-6 c = search needs
-
-enum-told-7 : tie.Need-enum-told-7
-enum-told-7 c = search needs
-
-enum-told-8 : tie.Need-enum-told-8
-enum-told-8 c = search needs
-
-enum-told-9 : tie.Need-enum-told-9
-enum-told-9 c = search needs
-
-enum-told-10 : tie.Need-enum-told-10
-enum-told-10 c = search needs
 
 returns : tie.Need-returns
 unfolding startsAt
@@ -89,17 +59,17 @@ pub starts-at-spec : {M : Type 1} → statement M
 starts-at-spec =
     tie.close
     (tie.spec
-    enum-known-act
+    (λ c. search needs)
     enum-told
-    enum-told-2
-    enum-told-3
-    enum-told-4
-    enum-told-5
-    enum-told-6
-    enum-told-7
-    enum-told-8
-    enum-told-9
-    enum-told-10
+    (λ c. search needs)
+    (λ c. search needs)
+    (λ c. search needs)
+    (λ c. search needs)
+    (λ c. search needs)
+    (λ c. search needs)
+    (λ c. search needs)
+    (λ c. search needs)
+    (λ c. search needs)
     returns
     returns-2
     returns-3

@@ -6,9 +6,6 @@ use borrow.Author.Needs.{needs}
 use Rattle.volatile.proofs.arrival.Statement.{statement}
 use Rattle.volatile.proofs.arrival.Tie as tie
 
-read-bit-requires : tie.Need-read-bit-requires
-read-bit-requires c κs = search needs
-
 returns : tie.Need-returns
 unfolding arrivalFlags
 returns c = rw (c .before .before .if1 .taken, sym (c .before .read-bit .ensures) ∙ c .if2 .taken)
@@ -17,9 +14,6 @@ returns-2 : tie.Need-returns-2
 unfolding arrivalFlags
 returns-2 c = rw (c .before .before .if1 .taken, sym (c .before .read-bit .ensures) ∙ c .if2 .left)
 
-read-bit-requires-2 : tie.Need-read-bit-requires-2
-read-bit-requires-2 c κs = search needs
-
 returns-3 : tie.Need-returns-3
 unfolding arrivalFlags
 returns-3 c = rw (c .before .before .if3 .taken, sym (c .before .read-bit2 .ensures) ∙ c .if4 .taken)
@@ -27,9 +21,6 @@ returns-3 c = rw (c .before .before .if3 .taken, sym (c .before .read-bit2 .ensu
 returns-4 : tie.Need-returns-4
 unfolding arrivalFlags
 returns-4 c = rw (c .before .before .if3 .taken, sym (c .before .read-bit2 .ensures) ∙ c .if4 .left)
-
-is-set-requires : tie.Need-is-set-requires
-is-set-requires c κs = search needs
 
 returns-5 : tie.Need-returns-5
 unfolding arrivalFlags unblown fusePlace
@@ -47,13 +38,13 @@ pub arrival-spec : {M : Type 1} → statement M
 arrival-spec =
     tie.close
     (tie.spec
-    read-bit-requires
+    (λ c κs. search needs)
     returns
     returns-2
-    read-bit-requires-2
+    (λ c κs. search needs)
     returns-3
     returns-4
-    is-set-requires
+    (λ c κs. search needs)
     returns-5
     returns-6
     returns-7)

@@ -3,15 +3,9 @@ use borrow.Author.Needs.{needs}
 use Rattle.words.proofs.after_word.Statement.{statement}
 use Rattle.words.proofs.after_word.Tie as tie
 
-beyond-requires : tie.Need-beyond-requires
-beyond-requires c κs = search needs
-
-beyond-requires-2 : tie.Need-beyond-requires-2
-beyond-requires-2 c κs = search needs
-
 returns : tie.Need-returns
 unfolding afterWord
 returns c = rw (c .before .beyond .ensures) at (c .beyond2 .ensures)
 
 pub after-word-spec : {M : Type 1} → statement M
-after-word-spec = tie.close (tie.spec beyond-requires beyond-requires-2 returns)
+after-word-spec = tie.close (tie.spec (λ c κs. search needs) (λ c κs. search needs) returns)

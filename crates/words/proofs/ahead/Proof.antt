@@ -20,9 +20,6 @@ loop-holds c = begun
 shared-slice-read-stops : tie.Need-shared-slice-read-stops Inv-loop μ-loop
 shared-slice-read-stops c = omega arith
 
-stops-requires : tie.Need-stops-requires Inv-loop μ-loop
-stops-requires c κs = search needs
-
 returns : tie.Need-returns Inv-loop μ-loop
 returns c =
     let turn = c .before .before .before in
@@ -52,7 +49,7 @@ ahead-spec =
     μ-loop
     loop-holds
     shared-slice-read-stops
-    stops-requires
+    (λ c κs. search needs)
     returns
     add-i
     loop-less

@@ -9,9 +9,6 @@ use borrow.Author.Needs.{needs}
 use Rattle.words.proofs.beyond.Statement.{statement}
 use Rattle.words.proofs.beyond.Tie as tie
 
-ahead-requires : tie.Need-ahead-requires
-ahead-requires c κs = search needs
-
 within : (c : tie.After-ahead) → c .ahead .result ≤ length (now (c .before .before .args .s))
 within c = rw (c .ahead .ensures) (ahead-le (c .before .before .args .stop) (now (c .before .before .args .s)))
 
@@ -21,13 +18,10 @@ sub-result c = within c
 part-result-start : tie.Need-part-result-start
 part-result-start c = within c
 
-part-result-end : tie.Need-part-result-end
-part-result-end c = search needs
-
 returns : tie.Need-returns
 unfolding from
 returns c = rest-of (c .before .ahead .result) (now (c .before .before .before .args .s)) ∙ rw (c .before .ahead .ensures) refl
 
 pub beyond-spec : {M : Type 1} → statement M
 beyond-spec =
-    tie.close (tie.spec ahead-requires sub-result part-result-start part-result-end returns)
+    tie.close (tie.spec (λ c κs. search needs) sub-result part-result-start (λ c. search needs) returns)

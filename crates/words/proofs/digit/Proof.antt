@@ -16,9 +16,6 @@ returns-3 : tie.Need-returns-3
 unfolding digitOf
 returns-3 c = search tests
 
-sub-result : tie.Need-sub-result
-sub-result c = search needs
-
 returns-4 : tie.Need-returns-4
 unfolding digitOf
 returns-4 c = search tests
@@ -26,9 +23,6 @@ returns-4 c = search tests
 returns-5 : tie.Need-returns-5
 unfolding digitOf
 returns-5 c = search tests
-
-sub-result-2 : tie.Need-sub-result-2
-sub-result-2 c = search needs
 
 returns-6 : tie.Need-returns-6
 unfolding digitOf
@@ -45,9 +39,9 @@ digit-spec =
     returns
     returns-2
     returns-3
-    sub-result
+    (λ c. search needs)
     returns-4
     returns-5
-    sub-result-2
+    (λ c. search needs)
     returns-6
     returns-7)

@@ -3,15 +3,9 @@ use borrow.Author.Needs.{needs}
 use Rattle.words.proofs.first_word.Statement.{statement}
 use Rattle.words.proofs.first_word.Tie as tie
 
-beyond-requires : tie.Need-beyond-requires
-beyond-requires c κs = search needs
-
-up-to-requires : tie.Need-up-to-requires
-up-to-requires c κs = search needs
-
 returns : tie.Need-returns
 unfolding firstWord
 returns c = rw (c .before .beyond .ensures) at (c .up-to .ensures)
 
 pub first-word-spec : {M : Type 1} → statement M
-first-word-spec = tie.close (tie.spec beyond-requires up-to-requires returns)
+first-word-spec = tie.close (tie.spec (λ c κs. search needs) (λ c κs. search needs) returns)

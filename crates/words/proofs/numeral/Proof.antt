@@ -8,15 +8,9 @@ returns : tie.Need-returns
 unfolding numberOf
 returns c = simp (eq-eqb _ _ (c .if1 .taken))
 
-numeral-from-requires : tie.Need-numeral-from-requires
-numeral-from-requires c κs = search needs
-
 returns-2 : tie.Need-returns-2
 unfolding numberOf
 returns-2 c = simp (ne-eqb _ _ (c .before .before .if1 .left), c .before .if2 .taken) (c .numeral-from .ensures)
-
-numeral-from-requires-2 : tie.Need-numeral-from-requires-2
-numeral-from-requires-2 c κs = search needs
 
 returns-3 : tie.Need-returns-3
 unfolding numberOf
@@ -24,4 +18,4 @@ returns-3 c = simp (ne-eqb _ _ (c .before .before .if1 .left), c .before .if2 .l
 
 pub numeral-spec : {M : Type 1} → statement M
 numeral-spec =
-    tie.close (tie.spec returns numeral-from-requires returns-2 numeral-from-requires-2 returns-3)
+    tie.close (tie.spec returns (λ c κs. search needs) returns-2 (λ c κs. search needs) returns-3)

@@ -22,9 +22,6 @@ loop-holds c = begun
 shared-slice-read-digit : tie.Need-shared-slice-read-digit Inv-loop μ-loop
 shared-slice-read-digit c = omega arith
 
-digit-requires : tie.Need-digit-requires Inv-loop μ-loop
-digit-requires c κs = search needs
-
 cast-d : tie.Need-cast-d Inv-loop μ-loop
 cast-d c = omega arith
 
@@ -77,7 +74,7 @@ numeral-from-spec =
     μ-loop
     loop-holds
     shared-slice-read-digit
-    digit-requires
+    (λ c κs. search needs)
     cast-d
     returns
     returns-2

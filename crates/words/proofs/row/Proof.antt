@@ -4,18 +4,9 @@ use Rattle.words.specs.Names.{names, rowOf}
 use Rattle.words.proofs.row.Statement.{statement}
 use Rattle.words.proofs.row.Tie as tie
 
-pack-requires : tie.Need-pack-requires
-pack-requires c κs = search needs
-
-slice-aggregate-find : tie.Need-slice-aggregate-find
-slice-aggregate-find c = search needs
-
-find-requires : tie.Need-find-requires
-find-requires c κs = search needs
-
 returns : tie.Need-returns
 unfolding rowOf names
 returns c = c .find .ensures ∙ rw (c .before .before .pack .ensures) refl
 
 pub row-spec : {M : Type 1} → statement M
-row-spec = tie.close (tie.spec pack-requires slice-aggregate-find find-requires returns)
+row-spec = tie.close (tie.spec (λ c κs. search needs) (λ c. search needs) (λ c κs. search needs) returns)

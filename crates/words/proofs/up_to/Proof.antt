@@ -9,9 +9,6 @@ use borrow.Author.Needs.{needs}
 use Rattle.words.proofs.up_to.Statement.{statement}
 use Rattle.words.proofs.up_to.Tie as tie
 
-ahead-requires : tie.Need-ahead-requires
-ahead-requires c κs = search needs
-
 within : (c : tie.After-ahead) → c .ahead .result ≤ length (now (c .before .before .args .s))
 within c = rw (c .ahead .ensures) (ahead-le (c .before .before .args .stop) (now (c .before .before .args .s)))
 
@@ -23,4 +20,4 @@ unfolding upTo
 returns c = rw (c .before .ahead .ensures) refl
 
 pub up-to-spec : {M : Type 1} → statement M
-up-to-spec = tie.close (tie.spec ahead-requires slice-aggregate-result returns)
+up-to-spec = tie.close (tie.spec (λ c κs. search needs) slice-aggregate-result returns)

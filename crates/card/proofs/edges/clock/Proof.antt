@@ -6,26 +6,11 @@ use borrow.Author.Needs.{needs}
 use Rattle.card.proofs.edges.clock.Statement.{statement}
 use Rattle.card.proofs.edges.clock.Tie as tie
 
-is-set-requires : tie.Need-is-set-requires
-is-set-requires c κs = search needs
-
 clock-falls-requires : tie.Need-clock-falls-requires
 clock-falls-requires c κs =
     let start = c .before .before .before in
     let low = sym (c .before .is-set .ensures) ∙ not-true (c .before .is-set .result) (c .if1 .taken) in
     (start .pre .0, (start .pre .1 .0, (start .pre .1 .1, low)))
-
-returns : tie.Need-returns
-returns c = search needs
-
-is-set-requires-2 : tie.Need-is-set-requires-2
-is-set-requires-2 c κs = search needs
-
-clock-rises-requires : tie.Need-clock-rises-requires
-clock-rises-requires c κs = search needs
-
-known-requires : tie.Need-known-requires
-known-requires c κs = search needs
 
 returns-2 : tie.Need-returns-2
 unfolding high place mask
@@ -39,12 +24,6 @@ returns-2 c =
     let clk = sym (up .before .is-set .ensures) ∙ not-false (up .before .is-set .result) (up .if1 .left) in
     rw (c .known .ensures, c .before .clock-rises .ensures)
     (keeps ready _ (clk-rises ready _ t vcc clk) (clk-rises-kept ready _ t vcc clk))
-
-follows-requires : tie.Need-follows-requires
-follows-requires c κs = search needs
-
-known-requires-2 : tie.Need-known-requires-2
-known-requires-2 c κs = search needs
 
 returns-3 : tie.Need-returns-3
 unfolding high place mask
@@ -60,13 +39,13 @@ pub clock-spec : {M : Type 1} → statement M
 clock-spec =
     tie.close
     (tie.spec
-    is-set-requires
+    (λ c κs. search needs)
     clock-falls-requires
-    returns
-    is-set-requires-2
-    clock-rises-requires
-    known-requires
+    (λ c. search needs)
+    (λ c κs. search needs)
+    (λ c κs. search needs)
+    (λ c κs. search needs)
     returns-2
-    follows-requires
-    known-requires-2
+    (λ c κs. search needs)
+    (λ c κs. search needs)
     returns-3)

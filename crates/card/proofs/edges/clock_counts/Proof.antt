@@ -4,24 +4,6 @@ use borrow.Author.Needs.{needs}
 use Rattle.card.proofs.edges.clock_counts.Statement.{statement}
 use Rattle.card.proofs.edges.clock_counts.Tie as tie
 
-level1-requires : tie.Need-level1-requires
-level1-requires c κs = search needs
-
-compared-requires : tie.Need-compared-requires
-compared-requires c κs = search needs
-
-unlatched-requires : tie.Need-unlatched-requires
-unlatched-requires c κs = search needs
-
-following-requires : tie.Need-following-requires
-following-requires c κs = search needs
-
-arrives-requires : tie.Need-arrives-requires
-arrives-requires c κs = search needs
-
-read-requires : tie.Need-read-requires
-read-requires c κs = search needs
-
 returns : tie.Need-returns
 returns c =
     let along = c .before .before in
@@ -41,10 +23,10 @@ pub clock-counts-spec : {M : Type 1} → statement M
 clock-counts-spec =
     tie.close
     (tie.spec
-    level1-requires
-    compared-requires
-    unlatched-requires
-    following-requires
-    arrives-requires
-    read-requires
+    (λ c κs. search needs)
+    (λ c κs. search needs)
+    (λ c κs. search needs)
+    (λ c κs. search needs)
+    (λ c κs. search needs)
+    (λ c κs. search needs)
     returns)

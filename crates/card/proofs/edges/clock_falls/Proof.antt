@@ -12,24 +12,6 @@ use Rattle.card.proofs.edges.clock_falls.Tie as tie
 add-a : tie.Need-add-a
 add-a c = omega (arith, address-within (c .before .before .pre .0))
 
-shows-requires : tie.Need-shows-requires
-shows-requires c κs = search needs
-
-cast-read-bit : tie.Need-cast-read-bit
-cast-read-bit c = search needs
-
-read-bit-requires : tie.Need-read-bit-requires
-read-bit-requires c κs = search needs
-
-goes-on-requires : tie.Need-goes-on-requires
-goes-on-requires c κs = search needs
-
-pin-value-requires : tie.Need-pin-value-requires
-pin-value-requires c κs = search needs
-
-known-requires : tie.Need-known-requires
-known-requires c κs = search needs
-
 returns : tie.Need-returns
 unfolding high place mask unpacked
 returns c =
@@ -43,15 +25,6 @@ returns c =
     rw (c .known .ensures, c .before .pin-value .ensures, c .before .before .goes-on .ensures, c .before .before .before .read-bit .ensures)
     (walks ready _ t down idle (going .before .before .if1 .taken) shows (omega (arith, shows .small, going .if2 .taken)))
 
-is-set-requires : tie.Need-is-set-requires
-is-set-requires c κs = search needs
-
-follows-requires : tie.Need-follows-requires
-follows-requires c κs = search needs
-
-known-requires-2 : tie.Need-known-requires-2
-known-requires-2 c κs = search needs
-
 returns-2 : tie.Need-returns-2
 unfolding high place mask unpacked
 returns-2 c =
@@ -63,18 +36,6 @@ returns-2 c =
     let down = start .pre .1 .1 .1 in
     let vcc = sym (off .before .is-set .ensures) ∙ not-true (off .before .is-set .result) (off .if3 .taken) in
     rw (c .known2 .ensures, c .before .follows .ensures) (keeps ready _ (clk-unpowered ready _ t vcc) (clk-unpowered-kept ready _ t vcc))
-
-is-set-requires-2 : tie.Need-is-set-requires-2
-is-set-requires-2 c κs = search needs
-
-is-set-requires-3 : tie.Need-is-set-requires-3
-is-set-requires-3 c κs = search needs
-
-unlatched-requires : tie.Need-unlatched-requires
-unlatched-requires c κs = search needs
-
-known-requires-3 : tie.Need-known-requires-3
-known-requires-3 c κs = search needs
 
 returns-3 : tie.Need-returns-3
 unfolding high place mask unpacked
@@ -116,21 +77,21 @@ clock-falls-spec =
     tie.close
     (tie.spec
     add-a
-    shows-requires
-    cast-read-bit
-    read-bit-requires
-    goes-on-requires
-    pin-value-requires
-    known-requires
+    (λ c κs. search needs)
+    (λ c. search needs)
+    (λ c κs. search needs)
+    (λ c κs. search needs)
+    (λ c κs. search needs)
+    (λ c κs. search needs)
     returns
-    is-set-requires
-    follows-requires
-    known-requires-2
+    (λ c κs. search needs)
+    (λ c κs. search needs)
+    (λ c κs. search needs)
     returns-2
-    is-set-requires-2
-    is-set-requires-3
-    unlatched-requires
-    known-requires-3
+    (λ c κs. search needs)
+    (λ c κs. search needs)
+    (λ c κs. search needs)
+    (λ c κs. search needs)
     returns-3
     clock-counts-requires
     returns-4)

@@ -8,12 +8,9 @@ returns : tie.Need-returns
 unfolding following
 returns c = rw (c .if1 .taken)
 
-add-result : tie.Need-add-result
-add-result c = search needs
-
 returns-2 : tie.Need-returns-2
 unfolding following
 returns-2 c = rw (ne-eqb (c .before .args .a) 1519 (c .if1 .left))
 
 pub following-spec : {M : Type 1} → statement M
-following-spec = tie.close (tie.spec returns add-result returns-2)
+following-spec = tie.close (tie.spec returns (λ c. search needs) returns-2)

@@ -6,12 +6,6 @@ use borrow.Author.Needs.{needs}
 use Rattle.card.proofs.edges.fuse.Statement.{statement}
 use Rattle.card.proofs.edges.fuse.Tie as tie
 
-is-set-requires : tie.Need-is-set-requires
-is-set-requires c κs = search needs
-
-refused-requires : tie.Need-refused-requires
-refused-requires c κs = search needs
-
 returns : tie.Need-returns
 unfolding high place mask unpacked
 returns c =
@@ -20,12 +14,6 @@ returns c =
     let ready = start .pre .0 in
     rw (c .refused .ensures)
     (fus-refused ready _ (turned ready _ FUS (start .pre .1)) (sym (asked .before .is-set .ensures) ∙ asked .if1 .taken))
-
-follows-requires : tie.Need-follows-requires
-follows-requires c κs = search needs
-
-read-requires : tie.Need-read-requires
-read-requires c κs = search needs
 
 returns-2 : tie.Need-returns-2
 unfolding high place mask unpacked
@@ -39,4 +27,4 @@ returns-2 c =
 pub fuse-spec : {M : Type 1} → statement M
 fuse-spec =
     tie.close
-    (tie.spec is-set-requires refused-requires returns follows-requires read-requires returns-2)
+    (tie.spec (λ c κs. search needs) (λ c κs. search needs) returns (λ c κs. search needs) (λ c κs. search needs) returns-2)

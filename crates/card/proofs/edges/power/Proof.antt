@@ -6,15 +6,6 @@ use borrow.Author.Needs.{needs}
 use Rattle.card.proofs.edges.power.Statement.{statement}
 use Rattle.card.proofs.edges.power.Tie as tie
 
-is-set-requires : tie.Need-is-set-requires
-is-set-requires c κs = search needs
-
-power-falls-requires : tie.Need-power-falls-requires
-power-falls-requires c κs = search needs
-
-known-requires : tie.Need-known-requires
-known-requires c κs = search needs
-
 returns : tie.Need-returns
 unfolding high place mask
 returns c =
@@ -24,9 +15,6 @@ returns c =
     let off = sym (asked .before .is-set .ensures) ∙ not-true (asked .before .is-set .result) (asked .if1 .taken) in
     rw (c .known .ensures, c .before .power-falls .ensures) (vcc-off ready _ (turned ready _ VCC (start .pre .1)) off)
 
-refused-requires : tie.Need-refused-requires
-refused-requires c κs = search needs
-
 returns-2 : tie.Need-returns-2
 unfolding high place mask
 returns-2 c =
@@ -35,12 +23,6 @@ returns-2 c =
     let ready = start .pre .0 in
     let on = sym (asked .before .is-set .ensures) ∙ not-false (asked .before .is-set .result) (asked .if1 .left) in
     rw (c .refused .ensures) (vcc-refused ready _ (turned ready _ VCC (start .pre .1)) on (c .before .if2 .taken))
-
-follows-requires : tie.Need-follows-requires
-follows-requires c κs = search needs
-
-read-requires : tie.Need-read-requires
-read-requires c κs = search needs
 
 returns-3 : tie.Need-returns-3
 unfolding high place mask
@@ -56,12 +38,12 @@ pub power-spec : {M : Type 1} → statement M
 power-spec =
     tie.close
     (tie.spec
-    is-set-requires
-    power-falls-requires
-    known-requires
+    (λ c κs. search needs)
+    (λ c κs. search needs)
+    (λ c κs. search needs)
     returns
-    refused-requires
+    (λ c κs. search needs)
     returns-2
-    follows-requires
-    read-requires
+    (λ c κs. search needs)
+    (λ c κs. search needs)
     returns-3)

@@ -4,21 +4,12 @@ use borrow.Author.Needs.{needs}
 use Rattle.card.proofs.edges.program.Statement.{statement}
 use Rattle.card.proofs.edges.program.Tie as tie
 
-refused-requires : tie.Need-refused-requires
-refused-requires c κs = search needs
-
 returns : tie.Need-returns
 unfolding mask place
 returns c =
     let start = c .before .before .before in
     let ready = start .pre .0 in
     rw (c .refused .ensures) (pgm-refused ready _ (turned ready _ PGM (start .pre .1)) (c .before .if1 .taken))
-
-follows-requires : tie.Need-follows-requires
-follows-requires c κs = search needs
-
-read-requires : tie.Need-read-requires
-read-requires c κs = search needs
 
 returns-2 : tie.Need-returns-2
 unfolding mask place
@@ -30,4 +21,4 @@ returns-2 c =
 
 pub program-spec : {M : Type 1} → statement M
 program-spec =
-    tie.close (tie.spec refused-requires returns follows-requires read-requires returns-2)
+    tie.close (tie.spec (λ c κs. search needs) returns (λ c κs. search needs) (λ c κs. search needs) returns-2)

@@ -6,12 +6,6 @@ use borrow.Author.Needs.{needs}
 use Rattle.card.proofs.edges.reset.Statement.{statement}
 use Rattle.card.proofs.edges.reset.Tie as tie
 
-is-set-requires : tie.Need-is-set-requires
-is-set-requires c κs = search needs
-
-refused-requires : tie.Need-refused-requires
-refused-requires c κs = search needs
-
 returns : tie.Need-returns
 unfolding high place mask unpacked
 returns c =
@@ -20,12 +14,6 @@ returns c =
     let ready = start .pre .0 in
     rw (c .refused .ensures)
     (rst-in-programming ready _ (turned ready _ RST (start .pre .1)) (sym (asked .before .is-set .ensures) ∙ asked .if1 .taken))
-
-follows-requires : tie.Need-follows-requires
-follows-requires c κs = search needs
-
-read-requires : tie.Need-read-requires
-read-requires c κs = search needs
 
 returns-2 : tie.Need-returns-2
 unfolding high place mask unpacked
@@ -36,12 +24,6 @@ returns-2 c =
     let t = turned ready _ RST (start .pre .1) in
     let programming = sym (idle .before .is-set .ensures) ∙ idle .if1 .left in
     rw (c .read .ensures, c .before .follows .ensures) (reads ready _ (rst-follows ready _ t programming (c .before .before .if2 .taken)))
-
-is-set-requires-2 : tie.Need-is-set-requires-2
-is-set-requires-2 c κs = search needs
-
-refused-requires-2 : tie.Need-refused-requires-2
-refused-requires-2 c κs = search needs
 
 returns-3 : tie.Need-returns-3
 unfolding high place mask unpacked
@@ -54,12 +36,6 @@ returns-3 c =
     let programming = sym (idle .before .is-set .ensures) ∙ idle .if1 .left in
     let clk = sym (c .before .before .is-set2 .ensures) ∙ c .before .if3 .taken in
     rw (c .refused2 .ensures) (rst-refused ready _ t programming (falls .if2 .left) clk)
-
-reset-falls-requires : tie.Need-reset-falls-requires
-reset-falls-requires c κs = search needs
-
-read-requires-2 : tie.Need-read-requires-2
-read-requires-2 c κs = search needs
 
 returns-4 : tie.Need-returns-4
 unfolding high place mask unpacked
@@ -78,15 +54,15 @@ pub reset-spec : {M : Type 1} → statement M
 reset-spec =
     tie.close
     (tie.spec
-    is-set-requires
-    refused-requires
+    (λ c κs. search needs)
+    (λ c κs. search needs)
     returns
-    follows-requires
-    read-requires
+    (λ c κs. search needs)
+    (λ c κs. search needs)
     returns-2
-    is-set-requires-2
-    refused-requires-2
+    (λ c κs. search needs)
+    (λ c κs. search needs)
     returns-3
-    reset-falls-requires
-    read-requires-2
+    (λ c κs. search needs)
+    (λ c κs. search needs)
     returns-4)

@@ -8,20 +8,11 @@ use borrow.Author.Needs.{needs}
 use Rattle.card.proofs.inner_step.step.Statement.{statement}
 use Rattle.card.proofs.inner_step.step.Tie as tie
 
-is-set-requires : tie.Need-is-set-requires
-is-set-requires c κs = search needs
-
 clock-requires : tie.Need-clock-requires
 clock-requires c κs =
     let asked = c .before in
     let line = asked .before .before in
     (line .before .before .before .pre, (sym (asked .before .is-set .ensures) ∙ asked .if2 .taken, line .if1 .taken))
-
-same-length : tie.Need-same-length
-same-length c = search needs
-
-returns : tie.Need-returns
-returns c = search needs
 
 clock-requires-2 : tie.Need-clock-requires-2
 clock-requires-2 c κs =
@@ -29,20 +20,8 @@ clock-requires-2 c κs =
     let line = asked .before .before in
     (line .before .before .before .pre, (sym (asked .before .is-set .ensures) ∙ asked .if2 .left, line .if1 .taken))
 
-with-fuses-requires : tie.Need-with-fuses-requires
-with-fuses-requires c κs = search needs
-
-same-length-2 : tie.Need-same-length-2
-same-length-2 c = search needs
-
 returns-2 : tie.Need-returns-2
 returns-2 c = rw (c .with-fuses .ensures) (c .before .clock2 .ensures)
-
-is-set-requires-2 : tie.Need-is-set-requires-2
-is-set-requires-2 c κs = search needs
-
-power-falls-requires : tie.Need-power-falls-requires
-power-falls-requires c κs = search needs
 
 returns-3 : tie.Need-returns-3
 unfolding mask place unpacked
@@ -53,15 +32,6 @@ returns-3 c =
     let programming = sym (cut .before .is-set2 .ensures) ∙ two .1 in
     rw (c .power-falls .ensures) (power-cut (start .pre) _ (turned (start .pre) _ VCC (eqb-true _ 1 (two .0))) programming)
 
-other-than-clock-requires : tie.Need-other-than-clock-requires
-other-than-clock-requires c κs = search needs
-
-with-fuses-requires-2 : tie.Need-with-fuses-requires-2
-with-fuses-requires-2 c κs = search needs
-
-same-length-3 : tie.Need-same-length-3
-same-length-3 c = search needs
-
 returns-4 : tie.Need-returns-4
 returns-4 c = rw (c .with-fuses2 .ensures) (c .before .other-than-clock .ensures)
 
@@ -69,18 +39,18 @@ pub step-spec : {M : Type 1} → statement M
 step-spec =
     tie.close
     (tie.spec
-    is-set-requires
+    (λ c κs. search needs)
     clock-requires
-    same-length
-    returns
+    (λ c. search needs)
+    (λ c. search needs)
     clock-requires-2
-    with-fuses-requires
-    same-length-2
+    (λ c κs. search needs)
+    (λ c. search needs)
     returns-2
-    is-set-requires-2
-    power-falls-requires
+    (λ c κs. search needs)
+    (λ c κs. search needs)
     returns-3
-    other-than-clock-requires
-    with-fuses-requires-2
-    same-length-3
+    (λ c κs. search needs)
+    (λ c κs. search needs)
+    (λ c. search needs)
     returns-4)

@@ -5,11 +5,8 @@ use borrow.Author.Needs.{needs}
 use Rattle.card.proofs.moved.read.Statement.{statement}
 use Rattle.card.proofs.moved.read.Tie as tie
 
-pin-requires : tie.Need-pin-requires
-pin-requires c κs = search needs
-
 returns : tie.Need-returns
 returns c = ap (λ (p : ℕ). moved (c .before .before .args .v) p 0) (c .pin .ensures)
 
 pub read-spec : {M : Type 1} → statement M
-read-spec = tie.close (tie.spec pin-requires returns)
+read-spec = tie.close (tie.spec (λ c κs. search needs) returns)

@@ -14,82 +14,25 @@ use Rattle.card.proofs.programming.carry_out.Tie as tie
 enum-told : tie.Need-enum-told
 enum-told c = search needs
 
-enum-told-2 : tie.Need-enum-told-2
-enum-told-2 c = search needs
-
-read-bit-requires : tie.Need-read-bit-requires
-read-bit-requires c κs = search needs
-
-write-bit-requires : tie.Need-write-bit-requires
-write-bit-requires c κs = search needs
-
-enum-told-3 : tie.Need-enum-told-3
-enum-told-3 c = search needs
-
-erase-word-requires : tie.Need-erase-word-requires
-erase-word-requires c κs = search needs
-
-enum-told-4 : tie.Need-enum-told-4
-enum-told-4 c = search needs
-
-fill-part-requires : tie.Need-fill-part-requires
-fill-part-requires c κs = search needs
-
-enum-told-5 : tie.Need-enum-told-5
-enum-told-5 c = search needs
-
-fill-part-requires-2 : tie.Need-fill-part-requires-2
-fill-part-requires-2 c κs = search needs
-
-enum-told-6 : tie.Need-enum-told-6
-enum-told-6 c = search needs
-
-fill-part-requires-3 : tie.Need-fill-part-requires-3
-fill-part-requires-3 c κs = search needs
-
-enum-told-7 : tie.Need-enum-told-7
-enum-told-7 c = search needs
-
-enum-told-8 : tie.Need-enum-told-8
-enum-told-8 c = search needs
-
-enum-told-9 : tie.Need-enum-told-9
-enum-told-9 c = search needs
-
 returns : tie.Need-returns
 unfolding doneBy memoryAfter fusesAfter turns blown fusePlace all cleared
 returns c = rw (c .enum-told .given .1) (refl, refl)
-
-same-length : tie.Need-same-length
-same-length c = search needs
 
 returns-2 : tie.Need-returns-2
 unfolding doneBy memoryAfter fusesAfter turns blown fusePlace all cleared
 returns-2 c = rw (c .before .before .before .before .before .before .enum-told2 .given .1) (ap (λ (t : Bool). record { fuses = c .before .before .before .before .before .before .before .before .before .args .fuses; turned = t }) (c .before .before .before .before .read-bit .ensures), c .before .before .write-bit .ensures)
 
-same-length-2 : tie.Need-same-length-2
-same-length-2 c = search needs
-
 returns-3 : tie.Need-returns-3
 unfolding doneBy memoryAfter fusesAfter turns blown fusePlace all cleared
 returns-3 c = rw (c .before .before .before .before .enum-told3 .given .1) (refl, c .before .before .erase-word .ensures)
-
-same-length-3 : tie.Need-same-length-3
-same-length-3 c = search needs
 
 returns-4 : tie.Need-returns-4
 unfolding doneBy memoryAfter fusesAfter turns blown fusePlace all cleared
 returns-4 c = rw (c .before .before .before .before .enum-told4 .given .1) (refl, c .before .before .fill-part .ensures)
 
-same-length-4 : tie.Need-same-length-4
-same-length-4 c = search needs
-
 returns-5 : tie.Need-returns-5
 unfolding doneBy memoryAfter fusesAfter turns blown fusePlace all cleared
 returns-5 c = rw (c .before .before .before .before .enum-told5 .given .1) (refl, c .before .before .fill-part2 .ensures)
-
-same-length-5 : tie.Need-same-length-5
-same-length-5 c = search needs
 
 returns-6 : tie.Need-returns-6
 unfolding doneBy memoryAfter fusesAfter turns blown fusePlace all cleared
@@ -112,30 +55,30 @@ carry-out-spec =
     tie.close
     (tie.spec
     enum-told
-    enum-told-2
-    read-bit-requires
-    write-bit-requires
-    enum-told-3
-    erase-word-requires
-    enum-told-4
-    fill-part-requires
-    enum-told-5
-    fill-part-requires-2
-    enum-told-6
-    fill-part-requires-3
-    enum-told-7
-    enum-told-8
-    enum-told-9
+    (λ c. search needs)
+    (λ c κs. search needs)
+    (λ c κs. search needs)
+    (λ c. search needs)
+    (λ c κs. search needs)
+    (λ c. search needs)
+    (λ c κs. search needs)
+    (λ c. search needs)
+    (λ c κs. search needs)
+    (λ c. search needs)
+    (λ c κs. search needs)
+    (λ c. search needs)
+    (λ c. search needs)
+    (λ c. search needs)
     returns
-    same-length
+    (λ c. search needs)
     returns-2
-    same-length-2
+    (λ c. search needs)
     returns-3
-    same-length-3
+    (λ c. search needs)
     returns-4
-    same-length-4
+    (λ c. search needs)
     returns-5
-    same-length-5
+    (λ c. search needs)
     returns-6
     returns-7
     returns-8

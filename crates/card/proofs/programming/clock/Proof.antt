@@ -6,15 +6,6 @@ use borrow.Author.Needs.{needs}
 use Rattle.card.proofs.programming.clock.Statement.{statement}
 use Rattle.card.proofs.programming.clock.Tie as tie
 
-is-set-requires : tie.Need-is-set-requires
-is-set-requires c κs = search needs
-
-refused-requires : tie.Need-refused-requires
-refused-requires c κs = search needs
-
-with-fuses-requires : tie.Need-with-fuses-requires
-with-fuses-requires c κs = search needs
-
 returns : tie.Need-returns
 unfolding high place mask unpacked
 returns c =
@@ -24,12 +15,6 @@ returns c =
     let t = turned ready _ CLK (start .pre .1 .1) in
     rw (c .with-fuses .ensures, c .before .refused .ensures)
     (clk-refused ready _ t (start .pre .1 .0) (sym (asked .before .is-set .ensures) ∙ asked .if1 .taken))
-
-clock-falls-requires : tie.Need-clock-falls-requires
-clock-falls-requires c κs = search needs
-
-same-length : tie.Need-same-length
-same-length c = search needs
 
 returns-2 : tie.Need-returns-2
 unfolding high place mask unpacked
@@ -46,10 +31,10 @@ pub clock-spec : {M : Type 1} → statement M
 clock-spec =
     tie.close
     (tie.spec
-    is-set-requires
-    refused-requires
-    with-fuses-requires
+    (λ c κs. search needs)
+    (λ c κs. search needs)
+    (λ c κs. search needs)
     returns
-    clock-falls-requires
-    same-length
+    (λ c κs. search needs)
+    (λ c. search needs)
     returns-2)

@@ -8,30 +8,6 @@ use borrow.Author.Needs.{needs}
 use Rattle.card.proofs.programming.clock_falls.Statement.{statement}
 use Rattle.card.proofs.programming.clock_falls.Tie as tie
 
-level1-requires : tie.Need-level1-requires
-level1-requires c κs = search needs
-
-is-set-requires : tie.Need-is-set-requires
-is-set-requires c κs = search needs
-
-operation-requires : tie.Need-operation-requires
-operation-requires c κs = search needs
-
-carry-out-requires : tie.Need-carry-out-requires
-carry-out-requires c κs = search needs
-
-programmed-requires : tie.Need-programmed-requires
-programmed-requires c κs = search needs
-
-read-requires : tie.Need-read-requires
-read-requires c κs = search needs
-
-with-fuses-requires : tie.Need-with-fuses-requires
-with-fuses-requires c κs = search needs
-
-same-length : tie.Need-same-length
-same-length c = search needs
-
 returns : tie.Need-returns
 unfolding doneBy unblown fusePlace programmedCard programmed unpacked
 returns c =
@@ -56,12 +32,12 @@ pub clock-falls-spec : {M : Type 1} → statement M
 clock-falls-spec =
     tie.close
     (tie.spec
-    level1-requires
-    is-set-requires
-    operation-requires
-    carry-out-requires
-    programmed-requires
-    read-requires
-    with-fuses-requires
-    same-length
+    (λ c κs. search needs)
+    (λ c κs. search needs)
+    (λ c κs. search needs)
+    (λ c κs. search needs)
+    (λ c κs. search needs)
+    (λ c κs. search needs)
+    (λ c κs. search needs)
+    (λ c. search needs)
     returns)

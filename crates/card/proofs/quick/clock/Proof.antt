@@ -10,12 +10,6 @@ use borrow.Author.Needs.{needs}
 use Rattle.card.proofs.quick.clock.Statement.{statement}
 use Rattle.card.proofs.quick.clock.Tie as tie
 
-is-set-requires : tie.Need-is-set-requires
-is-set-requires c κs = search needs
-
-follows-requires : tie.Need-follows-requires
-follows-requires c κs = search needs
-
 returns : tie.Need-returns
 unfolding high place mask
 returns c =
@@ -23,12 +17,6 @@ returns c =
     let start = off .before .before in
     let vcc = sym (off .before .is-set .ensures) ∙ not-true (off .before .is-set .result) (off .if1 .taken) in
     rw (c .follows .ensures) (quick-by _ _ CLK _ (start .pre) (λ m fuses p ready t. clk-unpowered ready _ t vcc))
-
-is-set-requires-2 : tie.Need-is-set-requires-2
-is-set-requires-2 c κs = search needs
-
-clock-rises-requires : tie.Need-clock-rises-requires
-clock-rises-requires c κs = search needs
 
 returns-2 : tie.Need-returns-2
 unfolding high place mask
@@ -39,18 +27,6 @@ returns-2 c =
     let vcc = sym (on .before .is-set .ensures) ∙ not-false (on .before .is-set .result) (on .if1 .left) in
     let clk = sym (up .before .is-set2 .ensures) ∙ up .if2 .taken in
     rw (c .clock-rises .ensures) (quick-by _ _ CLK _ (start .pre) (λ m fuses p ready t. clk-rises ready _ t vcc clk))
-
-is-set-requires-3 : tie.Need-is-set-requires-3
-is-set-requires-3 c κs = search needs
-
-is-set-requires-4 : tie.Need-is-set-requires-4
-is-set-requires-4 c κs = search needs
-
-is-set-requires-5 : tie.Need-is-set-requires-5
-is-set-requires-5 c κs = search needs
-
-unlatched-requires : tie.Need-unlatched-requires
-unlatched-requires c κs = search needs
 
 returns-3 : tie.Need-returns-3
 unfolding high place mask unpacked
@@ -76,15 +52,15 @@ pub clock-spec : {M : Type 1} → statement M
 clock-spec =
     tie.close
     (tie.spec
-    is-set-requires
-    follows-requires
+    (λ c κs. search needs)
+    (λ c κs. search needs)
     returns
-    is-set-requires-2
-    clock-rises-requires
+    (λ c κs. search needs)
+    (λ c κs. search needs)
     returns-2
-    is-set-requires-3
-    is-set-requires-4
-    is-set-requires-5
-    unlatched-requires
+    (λ c κs. search needs)
+    (λ c κs. search needs)
+    (λ c κs. search needs)
+    (λ c κs. search needs)
     returns-3
     returns-4)

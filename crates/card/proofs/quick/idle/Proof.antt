@@ -5,24 +5,15 @@ use borrow.Author.Needs.{needs}
 use Rattle.card.proofs.quick.idle.Statement.{statement}
 use Rattle.card.proofs.quick.idle.Tie as tie
 
-follows-requires : tie.Need-follows-requires
-follows-requires c κs = search needs
-
 returns : tie.Need-returns
 unfolding mask place
 returns c = rw (c .follows .ensures) (fus-quick _ _ (c .before .before .before .pre) (c .before .if1 .taken))
-
-reset-falls-requires : tie.Need-reset-falls-requires
-reset-falls-requires c κs = search needs
 
 returns-2 : tie.Need-returns-2
 unfolding mask place
 returns-2 c =
     let line = c .before .before in
     rw (c .reset-falls .ensures) (rst-falls-quick _ _ (line .before .before .before .pre) (line .if2 .taken) (c .before .if3 .taken))
-
-follows-requires-2 : tie.Need-follows-requires-2
-follows-requires-2 c κs = search needs
 
 returns-3 : tie.Need-returns-3
 unfolding mask place
@@ -38,10 +29,10 @@ pub idle-spec : {M : Type 1} → statement M
 idle-spec =
     tie.close
     (tie.spec
-    follows-requires
+    (λ c κs. search needs)
     returns
-    reset-falls-requires
+    (λ c κs. search needs)
     returns-2
-    follows-requires-2
+    (λ c κs. search needs)
     returns-3
     returns-4)

@@ -8,34 +8,16 @@ use borrow.Author.Needs.{needs}
 use Rattle.card.proofs.quick.step.Statement.{statement}
 use Rattle.card.proofs.quick.step.Tie as tie
 
-clock-requires : tie.Need-clock-requires
-clock-requires c κs = search needs
-
-returns : tie.Need-returns
-returns c = search needs
-
-follows-requires : tie.Need-follows-requires
-follows-requires c κs = search needs
-
 returns-2 : tie.Need-returns-2
 unfolding mask place
 returns-2 c =
     rw (c .follows .ensures) (quick-by _ _ IO _ (c .before .if2 .taken) (λ m fuses p ready t. io-goes ready _ t))
-
-follows-requires-2 : tie.Need-follows-requires-2
-follows-requires-2 c κs = search needs
 
 returns-3 : tie.Need-returns-3
 unfolding mask place
 returns-3 c =
     let both = high-low _ _ (c .before .if3 .taken) in
     rw (c .follows2 .ensures) (pgm-quick _ _ (eqb-true _ 8 (both .0)) (eqb-false _ 13 (both .1)))
-
-idle-requires : tie.Need-idle-requires
-idle-requires c κs = search needs
-
-returns-4 : tie.Need-returns-4
-returns-4 c = search needs
 
 returns-5 : tie.Need-returns-5
 unfolding QuickTo
@@ -45,12 +27,12 @@ pub step-spec : {M : Type 1} → statement M
 step-spec =
     tie.close
     (tie.spec
-    clock-requires
-    returns
-    follows-requires
+    (λ c κs. search needs)
+    (λ c. search needs)
+    (λ c κs. search needs)
     returns-2
-    follows-requires-2
+    (λ c κs. search needs)
     returns-3
-    idle-requires
-    returns-4
+    (λ c κs. search needs)
+    (λ c. search needs)
     returns-5)

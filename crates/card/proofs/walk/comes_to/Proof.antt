@@ -7,28 +7,10 @@ use borrow.Author.Needs.{needs}
 use Rattle.card.proofs.walk.comes_to.Statement.{statement}
 use Rattle.card.proofs.walk.comes_to.Tie as tie
 
-clocks-requires : tie.Need-clocks-requires
-clocks-requires c κs = search needs
-
-shows-requires : tie.Need-shows-requires
-shows-requires c κs = search needs
-
-none-requires : tie.Need-none-requires
-none-requires c κs = search needs
-
 returns : tie.Need-returns
 returns c =
     let asked = c .before in
     rw (c .none .ensures, ← asked .before .before .clocks .ensures, asked .before .shows .ensures .plain, asked .if1 .taken)
-
-cast-read-bit : tie.Need-cast-read-bit
-cast-read-bit c = search needs
-
-read-bit-requires : tie.Need-read-bit-requires
-read-bit-requires c κs = search needs
-
-pin-value-requires : tie.Need-pin-value-requires
-pin-value-requires c κs = search needs
 
 returns-2 : tie.Need-returns-2
 returns-2 c =
@@ -43,11 +25,11 @@ pub comes-to-spec : {M : Type 1} → statement M
 comes-to-spec =
     tie.close
     (tie.spec
-    clocks-requires
-    shows-requires
-    none-requires
+    (λ c κs. search needs)
+    (λ c κs. search needs)
+    (λ c κs. search needs)
     returns
-    cast-read-bit
-    read-bit-requires
-    pin-value-requires
+    (λ c. search needs)
+    (λ c κs. search needs)
+    (λ c κs. search needs)
     returns-2)

@@ -9,9 +9,6 @@ enum-told c = search needs
 returns : tie.Need-returns
 returns c = same (c .before .before .args .self)
 
-write-all-requires : tie.Need-write-all-requires
-write-all-requires c κs = search needs
-
 returns-2 : tie.Need-returns-2
 returns-2 c = rw (c .before .before .enum-told .given .1) tt
 
@@ -19,4 +16,4 @@ returns-3 : tie.Need-returns-3
 returns-3 c = rw (c .before .before .enum-told .given .1) tt
 
 pub say-spec : {M : Type 1} → statement M
-say-spec = tie.close (tie.spec enum-told returns write-all-requires returns-2 returns-3)
+say-spec = tie.close (tie.spec enum-told returns (λ c κs. search needs) returns-2 returns-3)

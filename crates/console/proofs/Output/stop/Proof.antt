@@ -6,15 +6,6 @@ use Rattle.console.proofs.Output.stop.Tie as tie
 enum-told : tie.Need-enum-told
 enum-told c = search needs
 
-tell-requires : tie.Need-tell-requires
-tell-requires c κs = search needs
-
-enum-told-2 : tie.Need-enum-told-2
-enum-told-2 c = search needs
-
-enum-told-3 : tie.Need-enum-told-3
-enum-told-3 c = search needs
-
 returns : tie.Need-returns
 unfolding stopped
 returns c = rw (c .before .enum-told .given .1)
@@ -30,4 +21,4 @@ returns-3 c = rw (c .enum-told3 .given .1)
 pub stop-spec : {M : Type 1} → statement M
 stop-spec =
     tie.close
-    (tie.spec enum-told tell-requires enum-told-2 enum-told-3 returns returns-2 returns-3)
+    (tie.spec enum-told (λ c κs. search needs) (λ c. search needs) (λ c. search needs) returns returns-2 returns-3)

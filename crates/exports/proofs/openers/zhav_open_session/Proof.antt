@@ -5,24 +5,9 @@ use borrow.Author.Needs.{needs}
 use Rattle.exports.proofs.openers.zhav_open_session.Statement.{statement}
 use Rattle.exports.proofs.openers.zhav_open_session.Tie as tie
 
-open-session-requires : tie.Need-open-session-requires
-open-session-requires c κs = search needs
-
-enum-known-opened : tie.Need-enum-known-opened
-enum-known-opened c = search needs
-
-enum-known-opened-2 : tie.Need-enum-known-opened-2
-enum-known-opened-2 c = search needs
-
-same-length : tie.Need-same-length
-same-length c = search needs
-
 returns : tie.Need-returns
 unfolding sessionOf stepsFrom sessionSteps sessionFuses sessionNumber
 returns c = session-told (c .before .before .before .before .before .open-session .ensures) (rw (c .before .opened .given .1))
-
-same-length-2 : tie.Need-same-length-2
-same-length-2 c = search needs
 
 returns-2 : tie.Need-returns-2
 unfolding sessionOf stepsFrom sessionSteps sessionFuses sessionNumber
@@ -32,10 +17,10 @@ pub zhav-open-session-spec : {M : Type 1} → statement M
 zhav-open-session-spec =
     tie.close
     (tie.spec
-    open-session-requires
-    enum-known-opened
-    enum-known-opened-2
-    same-length
+    (λ c κs. search needs)
+    (λ c. search needs)
+    (λ c. search needs)
+    (λ c. search needs)
     returns
-    same-length-2
+    (λ c. search needs)
     returns-2)

@@ -26,18 +26,9 @@ sub-rest c = c .loop .inv .place
 part-rest-start : tie.Need-part-rest-start Inv-loop μ-loop
 part-rest-start c = c .loop .inv .place
 
-part-rest-end : tie.Need-part-rest-end Inv-loop μ-loop
-part-rest-end c = search needs
-
-ahead-requires : tie.Need-ahead-requires Inv-loop μ-loop
-ahead-requires c κs = search needs
-
 slice-aggregate-line-order : tie.Need-slice-aggregate-line-order Inv-loop μ-loop
 slice-aggregate-line-order c =
     sym (length-take-le (c .before .ahead .result) _ (rw (c .before .ahead .ensures) (ahead-le LineEnd _)))
-
-line-order-requires : tie.Need-line-order-requires Inv-loop μ-loop
-line-order-requires c κs = search needs
 
 follow-requires : tie.Need-follow-requires Inv-loop μ-loop
 follow-requires c κs =
@@ -78,12 +69,6 @@ turned c =
       image-kept = c .follow .kept .1 .1 .0;
       steps-kept = c .follow .kept .1 .1 .1 .0;
     }
-
-enum-known-next : tie.Need-enum-known-next Inv-loop μ-loop
-enum-known-next c = search needs
-
-enum-known-refusal : tie.Need-enum-known-refusal Inv-loop μ-loop
-enum-known-refusal c = search needs
 
 same-length : tie.Need-same-length Inv-loop μ-loop
 same-length c = image-same (turned (line (c .before .before .before)))
@@ -135,13 +120,13 @@ read-lines-spec =
     loop-holds
     sub-rest
     part-rest-start
-    part-rest-end
-    ahead-requires
+    (λ c. search needs)
+    (λ c κs. search needs)
     slice-aggregate-line-order
-    line-order-requires
+    (λ c κs. search needs)
     follow-requires
-    enum-known-next
-    enum-known-refusal
+    (λ c. search needs)
+    (λ c. search needs)
     same-length
     same-length-2
     returns

@@ -3,12 +3,6 @@ use borrow.Author.Needs.{needs}
 use Rattle.text.proofs.sheet.arrange.Statement.{statement}
 use Rattle.text.proofs.sheet.arrange.Tie as tie
 
-change-requires : tie.Need-change-requires
-change-requires c κs = search needs
-
-same-length : tie.Need-same-length
-same-length c = search needs
-
 returns : tie.Need-returns
 returns c =
     let changed = c .before .before in
@@ -18,4 +12,4 @@ returns-2 : tie.Need-returns-2
 returns-2 c = λ steps h. after-a-step _ _ _ steps h (c .if1 .left)
 
 pub arrange-spec : {M : Type 1} → statement M
-arrange-spec = tie.close (tie.spec change-requires same-length returns returns-2)
+arrange-spec = tie.close (tie.spec (λ c κs. search needs) (λ c. search needs) returns returns-2)

@@ -4,32 +4,11 @@ use borrow.Author.Needs.{needs}
 use Rattle.text.proofs.sheet.change.Statement.{statement}
 use Rattle.text.proofs.sheet.change.Tie as tie
 
-enum-known-c : tie.Need-enum-known-c
-enum-known-c c = search needs
-
-fill-part-requires : tie.Need-fill-part-requires
-fill-part-requires c κs = search needs
-
-enum-known-c-2 : tie.Need-enum-known-c-2
-enum-known-c-2 c = search needs
-
-put-bytes-requires : tie.Need-put-bytes-requires
-put-bytes-requires c κs = search needs
-
-enum-known-c-3 : tie.Need-enum-known-c-3
-enum-known-c-3 c = search needs
-
-same-length : tie.Need-same-length
-same-length c = search needs
-
 returns : tie.Need-returns
 unfolding changedImage changedFuses
 returns c =
     let done = c .before .before in
     rw (done .before .before .before .c .given .1) (record { bytes = done .fill-part .ensures; answer = refl })
-
-same-length-2 : tie.Need-same-length-2
-same-length-2 c = search needs
 
 returns-2 : tie.Need-returns-2
 unfolding changedImage changedFuses
@@ -45,13 +24,13 @@ pub change-spec : {M : Type 1} → statement M
 change-spec =
     tie.close
     (tie.spec
-    enum-known-c
-    fill-part-requires
-    enum-known-c-2
-    put-bytes-requires
-    enum-known-c-3
-    same-length
+    (λ c. search needs)
+    (λ c κs. search needs)
+    (λ c. search needs)
+    (λ c κs. search needs)
+    (λ c. search needs)
+    (λ c. search needs)
     returns
-    same-length-2
+    (λ c. search needs)
     returns-2
     returns-3)

@@ -21,49 +21,16 @@ turn c =
       acted = rw (c .before .before .before .present .ensures) at (c .make .ensures);
     }
 
-slice-reshare-prefix-present : tie.Need-slice-reshare-prefix-present
-slice-reshare-prefix-present c = search needs
-
 slice-aggregate-present : tie.Need-slice-aggregate-present
 slice-aggregate-present c = sym (length-take-le _ _ (c .before .before .before .pre .1 .1))
 
-present-requires : tie.Need-present-requires
-present-requires c κs = search needs
-
-shared-slice-read-make : tie.Need-shared-slice-read-make
-shared-slice-read-make c = search needs
-
-sub-make : tie.Need-sub-make
-sub-make c = search needs
-
-part-make-start : tie.Need-part-make-start
-part-make-start c = search needs
-
-part-make-end : tie.Need-part-make-end
-part-make-end c = search needs
-
-make-requires : tie.Need-make-requires
-make-requires c κs = search needs
-
-enum-known-made : tie.Need-enum-known-made
-enum-known-made c = search needs
-
 add-t19 : tie.Need-add-t19
 add-t19 c = omega (arith, more-fits (turn (c .before .before .before .before .before)) _ (c .before .made .given .1))
-
-enum-known-made-2 : tie.Need-enum-known-made-2
-enum-known-made-2 c = search needs
-
-same-length : tie.Need-same-length
-same-length c = search needs
 
 returns : tie.Need-returns
 returns c =
     let made = c .before .before .before .before .before in
     came-on (turn made) _ (c .before .made .given .1) (made .make .kept .1 .1 .1 .0)
-
-same-length-2 : tie.Need-same-length-2
-same-length-2 c = search needs
 
 returns-2 : tie.Need-returns-2
 returns-2 c = came-to-a-stop (turn (c .before .before .before .before .before)) _ _ (c .before .made2 .given .1)
@@ -72,18 +39,18 @@ pub drive-spec : {M : Type 1} → statement M
 drive-spec =
     tie.close
     (tie.spec
-    slice-reshare-prefix-present
+    (λ c. search needs)
     slice-aggregate-present
-    present-requires
-    shared-slice-read-make
-    sub-make
-    part-make-start
-    part-make-end
-    make-requires
-    enum-known-made
+    (λ c κs. search needs)
+    (λ c. search needs)
+    (λ c. search needs)
+    (λ c. search needs)
+    (λ c. search needs)
+    (λ c κs. search needs)
+    (λ c. search needs)
     add-t19
-    enum-known-made-2
-    same-length
+    (λ c. search needs)
+    (λ c. search needs)
     returns
-    same-length-2
+    (λ c. search needs)
     returns-2)

@@ -10,39 +10,15 @@ use Rattle.text.proofs.sheet.follow.Tie as tie
 enum-told : tie.Need-enum-told
 enum-told c = search needs
 
-enum-known-order : tie.Need-enum-known-order
-enum-known-order c = search needs
-
-arrange-requires : tie.Need-arrange-requires
-arrange-requires c κs = search needs
-
-enum-known-order-2 : tie.Need-enum-known-order-2
-enum-known-order-2 c = search needs
-
-drive-requires : tie.Need-drive-requires
-drive-requires c κs = search needs
-
-enum-known-order-3 : tie.Need-enum-known-order-3
-enum-known-order-3 c = search needs
-
 returns : tie.Need-returns
 unfolding follow outcomeOf countOf
 returns c = rw (c .enum-told .given .1) (record { outcome = refl; within = c .before .before .before .before .pre .1 .1 })
-
-same-length : tie.Need-same-length
-same-length c = search needs
 
 returns-2 : tie.Need-returns-2
 returns-2 c =
     let arranged = c .before .before in
     let start = arranged .before .before .before .before .before .before .before in
     rw (arranged .before .before .before .order .given .1) (arranged .arrange .ensures (now (start .args .steps)) (start .pre .1 .1))
-
-same-length-2 : tie.Need-same-length-2
-same-length-2 c = search needs
-
-same-length-3 : tie.Need-same-length-3
-same-length-3 c = search needs
 
 returns-3 : tie.Need-returns-3
 unfolding follow
@@ -57,15 +33,15 @@ follow-spec =
     tie.close
     (tie.spec
     enum-told
-    enum-known-order
-    arrange-requires
-    enum-known-order-2
-    drive-requires
-    enum-known-order-3
+    (λ c. search needs)
+    (λ c κs. search needs)
+    (λ c. search needs)
+    (λ c κs. search needs)
+    (λ c. search needs)
     returns
-    same-length
+    (λ c. search needs)
     returns-2
-    same-length-2
-    same-length-3
+    (λ c. search needs)
+    (λ c. search needs)
     returns-3
     returns-4)

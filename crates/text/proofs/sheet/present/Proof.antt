@@ -12,15 +12,9 @@ returns : tie.Need-returns
 unfolding present
 returns c = sym (List·getD-eq-default (now (c .before .args .steps)) 0 {n = length (now (c .before .args .steps)) - 1} (omega arith))
 
-sub-result : tie.Need-sub-result
-sub-result c = search needs
-
-shared-slice-read-result : tie.Need-shared-slice-read-result
-shared-slice-read-result c = search needs
-
 returns-2 : tie.Need-returns-2
 unfolding present
 returns-2 c = refl
 
 pub present-spec : {M : Type 1} → statement M
-present-spec = tie.close (tie.spec returns sub-result shared-slice-read-result returns-2)
+present-spec = tie.close (tie.spec returns (λ c. search needs) (λ c. search needs) returns-2)

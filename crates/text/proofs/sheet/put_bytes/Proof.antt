@@ -29,9 +29,6 @@ returns c =
 sub-left : tie.Need-sub-left Inv-loop μ-loop
 sub-left c = omega arith
 
-byte-of-requires : tie.Need-byte-of-requires Inv-loop μ-loop
-byte-of-requires c κs = search needs
-
 slice-write-image : tie.Need-slice-write-image Inv-loop μ-loop
 slice-write-image c = omega arith
 
@@ -69,7 +66,7 @@ put-bytes-spec =
     same-length
     returns
     sub-left
-    byte-of-requires
+    (λ c κs. search needs)
     slice-write-image
     add-at
     loop-less

@@ -17,15 +17,9 @@ returns-3 : tie.Need-returns-3
 unfolding endsMatch
 returns-3 c = rw (c .if3 .taken) (arrive-ending (now (c .before .before .before .before .args .image)) (c .before .before .before .before .args .fuses) (c .before .before .before .before .args .self) 1360 record { ends = refl; on = refl; no-p1 = refl; no-r1 = refl; no-e1 = refl })
 
-is-set-requires : tie.Need-is-set-requires
-is-set-requires c κs = search needs
-
-arrival-requires : tie.Need-arrival-requires
-arrival-requires c κs = search needs
-
 returns-4 : tie.Need-returns-4
 returns-4 c = rw (c .arrival .ensures, c .before .is-set .ensures) (arrive-elsewhere (now (c .before .before .before .before .before .before .args .image)) (c .before .before .before .before .before .before .args .fuses) (c .before .before .before .before .before .before .args .self) (c .before .before .before .before .before .before .args .a) (c .before .before .before .before .if1 .left) (c .before .before .before .if2 .left) (c .before .before .if3 .left))
 
 pub arrives-spec : {M : Type 1} → statement M
 arrives-spec =
-    tie.close (tie.spec returns returns-2 returns-3 is-set-requires arrival-requires returns-4)
+    tie.close (tie.spec returns returns-2 returns-3 (λ c κs. search needs) (λ c κs. search needs) returns-4)

@@ -6,15 +6,9 @@ use borrow.Author.Needs.{needs}
 use Rattle.volatile.proofs.Volatile.level1.Statement.{statement}
 use Rattle.volatile.proofs.Volatile.level1.Tie as tie
 
-is-set-requires : tie.Need-is-set-requires
-is-set-requires c κs = search needs
-
-is-set-requires-2 : tie.Need-is-set-requires-2
-is-set-requires-2 c κs = search needs
-
 returns : tie.Need-returns
 unfolding level1 held unpacked unblown fusePlace high place
 returns c = rw (c .before .is-set .ensures, c .is-set2 .ensures)
 
 pub level1-spec : {M : Type 1} → statement M
-level1-spec = tie.close (tie.spec is-set-requires is-set-requires-2 returns)
+level1-spec = tie.close (tie.spec (λ c κs. search needs) (λ c κs. search needs) returns)

@@ -12,15 +12,6 @@ use borrow.Author.Needs.{needs}
 use Rattle.volatile.proofs.Volatile.may_program.Statement.{statement}
 use Rattle.volatile.proofs.Volatile.may_program.Tie as tie
 
-zone-of-requires : tie.Need-zone-of-requires
-zone-of-requires c κs = search needs
-
-is-set-requires : tie.Need-is-set-requires
-is-set-requires c κs = search needs
-
-is-fuse-requires : tie.Need-is-fuse-requires
-is-fuse-requires c κs = search needs
-
 returns : tie.Need-returns
 unfolding high place unpacked
 returns c =
@@ -30,21 +21,6 @@ returns c =
     sym
     (may-program-by (args .fuses) (unpacked (args .self)) false
     (rw (c .before .before .is-set .ensures, c .before .is-fuse .ensures, c .before .before .before .zone-of .ensures) at other))
-
-is-set-requires-2 : tie.Need-is-set-requires-2
-is-set-requires-2 c κs = search needs
-
-is-set-requires-3 : tie.Need-is-set-requires-3
-is-set-requires-3 c κs = search needs
-
-level1-requires : tie.Need-level1-requires
-level1-requires c κs = search needs
-
-asks-of-requires : tie.Need-asks-of-requires
-asks-of-requires c κs = search needs
-
-lacking-requires : tie.Need-lacking-requires
-lacking-requires c κs = search needs
 
 returns-2 : tie.Need-returns-2
 unfolding high place unpacked unblown fusePlace
@@ -66,13 +42,13 @@ pub may-program-spec : {M : Type 1} → statement M
 may-program-spec =
     tie.close
     (tie.spec
-    zone-of-requires
-    is-set-requires
-    is-fuse-requires
+    (λ c κs. search needs)
+    (λ c κs. search needs)
+    (λ c κs. search needs)
     returns
-    is-set-requires-2
-    is-set-requires-3
-    level1-requires
-    asks-of-requires
-    lacking-requires
+    (λ c κs. search needs)
+    (λ c κs. search needs)
+    (λ c κs. search needs)
+    (λ c κs. search needs)
+    (λ c κs. search needs)
     returns-2)

@@ -12,12 +12,6 @@ returns c =
     let args = c .before .args in
     sym (low-readable (held (args .fuses) (unpacked (args .self))) (args .self .address) (omega arith))
 
-may-read-by-table-requires : tie.Need-may-read-by-table-requires
-may-read-by-table-requires c κs = search needs
-
-returns-2 : tie.Need-returns-2
-returns-2 c = search needs
-
 returns-3 : tie.Need-returns-3
 returns-3 c =
     let args = c .before .before .before .args in
@@ -30,12 +24,6 @@ returns-4 c =
     sv-or-r1 (args .self .flags) ∙
     sym (az-readable (held (args .fuses) (unpacked (args .self))) (args .self .address) (omega arith) (omega arith))
 
-may-read-by-table-requires-2 : tie.Need-may-read-by-table-requires-2
-may-read-by-table-requires-2 c κs = search needs
-
-returns-5 : tie.Need-returns-5
-returns-5 c = search needs
-
 returns-6 : tie.Need-returns-6
 returns-6 c =
     let args = c .before .before .before .before .before .args in
@@ -46,10 +34,10 @@ may-read-spec =
     tie.close
     (tie.spec
     returns
-    may-read-by-table-requires
-    returns-2
+    (λ c κs. search needs)
+    (λ c. search needs)
     returns-3
     returns-4
-    may-read-by-table-requires-2
-    returns-5
+    (λ c κs. search needs)
+    (λ c. search needs)
     returns-6)

@@ -8,18 +8,6 @@ use borrow.Author.Needs.{needs}
 use Rattle.volatile.proofs.Volatile.may_read_by_table.Statement.{statement}
 use Rattle.volatile.proofs.Volatile.may_read_by_table.Tie as tie
 
-zone-of-requires : tie.Need-zone-of-requires
-zone-of-requires c κs = search needs
-
-level1-requires : tie.Need-level1-requires
-level1-requires c κs = search needs
-
-right-of-requires : tie.Need-right-of-requires
-right-of-requires c κs = search needs
-
-lacking-requires : tie.Need-lacking-requires
-lacking-requires c κs = search needs
-
 returns : tie.Need-returns
 unfolding mayRead
 returns c =
@@ -31,4 +19,4 @@ returns c =
 pub may-read-by-table-spec : {M : Type 1} → statement M
 may-read-by-table-spec =
     tie.close
-    (tie.spec zone-of-requires level1-requires right-of-requires lacking-requires returns)
+    (tie.spec (λ c κs. search needs) (λ c κs. search needs) (λ c κs. search needs) (λ c κs. search needs) returns)

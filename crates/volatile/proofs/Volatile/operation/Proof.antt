@@ -6,21 +6,6 @@ use borrow.Author.Needs.{needs}
 use Rattle.volatile.proofs.Volatile.operation.Statement.{statement}
 use Rattle.volatile.proofs.Volatile.operation.Tie as tie
 
-may-program-requires : tie.Need-may-program-requires
-may-program-requires c κs = search needs
-
-is-set-requires : tie.Need-is-set-requires
-is-set-requires c κs = search needs
-
-level1-requires : tie.Need-level1-requires
-level1-requires c κs = search needs
-
-zone-of-requires : tie.Need-zone-of-requires
-zone-of-requires c κs = search needs
-
-effect-of-requires : tie.Need-effect-of-requires
-effect-of-requires c κs = search needs
-
 returns : tie.Need-returns
 unfolding unpacked
 returns c =
@@ -42,10 +27,10 @@ pub operation-spec : {M : Type 1} → statement M
 operation-spec =
     tie.close
     (tie.spec
-    may-program-requires
-    is-set-requires
-    level1-requires
-    zone-of-requires
-    effect-of-requires
+    (λ c κs. search needs)
+    (λ c κs. search needs)
+    (λ c κs. search needs)
+    (λ c κs. search needs)
+    (λ c κs. search needs)
     returns
     returns-2)

@@ -5,21 +5,9 @@ use Rattle.rules.specs.Steps.{pinValue}
 use Rattle.volatile.proofs.Volatile.pin.Statement.{statement}
 use Rattle.volatile.proofs.Volatile.pin.Tie as tie
 
-driven-requires : tie.Need-driven-requires
-driven-requires c κs = search needs
-
 returns : tie.Need-returns
 unfolding pinValue
 returns c = rw (← c .before .driven .ensures, not-true (c .before .driven .result) (c .if1 .taken))
-
-cast-read-bit : tie.Need-cast-read-bit
-cast-read-bit c = search needs
-
-read-bit-requires : tie.Need-read-bit-requires
-read-bit-requires c κs = search needs
-
-pin-value-requires : tie.Need-pin-value-requires
-pin-value-requires c κs = search needs
 
 returns-2 : tie.Need-returns-2
 returns-2 c =
@@ -29,4 +17,4 @@ returns-2 c =
 pub pin-spec : {M : Type 1} → statement M
 pin-spec =
     tie.close
-    (tie.spec driven-requires returns cast-read-bit read-bit-requires pin-value-requires returns-2)
+    (tie.spec (λ c κs. search needs) returns (λ c. search needs) (λ c κs. search needs) (λ c κs. search needs) returns-2)

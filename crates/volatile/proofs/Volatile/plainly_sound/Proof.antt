@@ -16,15 +16,6 @@ returns-3 : tie.Need-returns-3
 unfolding plainlySound
 returns-3 c = rw (le-ltb 63 _ (c .before .before .before .before .if1 .left), le-ltb 31 _ (c .before .before .if2 .left), lt-ltb 1519 _ (c .if3 .taken))
 
-mul-wires : tie.Need-mul-wires
-mul-wires c = search needs
-
-add-wires : tie.Need-add-wires
-add-wires c = search needs
-
-shr-result : tie.Need-shr-result
-shr-result c = search needs
-
 returns-4 : tie.Need-returns-4
 unfolding plainlySound wired
 returns-4 c =
@@ -33,4 +24,4 @@ returns-4 c =
 
 pub plainly-sound-spec : {M : Type 1} → statement M
 plainly-sound-spec =
-    tie.close (tie.spec returns returns-2 returns-3 mul-wires add-wires shr-result returns-4)
+    tie.close (tie.spec returns returns-2 returns-3 (λ c. search needs) (λ c. search needs) (λ c. search needs) returns-4)
