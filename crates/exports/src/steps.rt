@@ -78,12 +78,36 @@ pub extern "C" fn zhav_step(image: &mut [u8], fuses: u8, v: Volatile, n: u8) -> 
     }
 }
 
+// The same for `zhav_step_at` alone: a function with one caller becomes part of it, one with two is called.
+fn step_lent(image: &mut [u8], fuses: u8, v: Volatile, n: u8) -> ZhavStepped
+    ensures { λ r. ⌜ StepTold (given (now (image .entry)) fuses v) n r (now (image .exit)) ⌝ }
+{
+    let w = card::walk_step(image, fuses, v, n);
+    if w.pin != card::NO_WALK {
+        let next = w.volatile;
+        return ZhavStepped {
+            half: next,
+            fuses: fuses,
+            answer: w.pin,
+            refusal: 0,
+        };
+    }
+    let s = card::step_told(image, fuses, v, n);
+    let next = s.volatile;
+    ZhavStepped {
+        half: next,
+        fuses: s.fuses,
+        answer: s.pin,
+        refusal: s.refusal,
+    }
+}
+
 // One step on a volatile half that is lent: what stands there afterwards is the half that the step hands back.
 #[no_mangle]
 pub extern "C" fn zhav_step_at(image: &mut [u8], fuses: u8, v: &mut Volatile, n: u8) -> ZhavTold
     ensures { λ r. ⌜ StepToldAt (given (now (image .entry)) fuses (now (v .entry))) n r (now (v .exit)) (now (image .exit)) ⌝ }
 {
-    let s = zhav_step(image, fuses, *v, n);
+    let s = step_lent(image, fuses, *v, n);
     *v = s.half;
     ZhavTold {
         fuses: s.fuses,
