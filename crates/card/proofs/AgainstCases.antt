@@ -1,9 +1,11 @@
 -- 01's cases of the card's calls, computed from the definitions. Assumes nothing.
 use mathlib.Core.Path.{refl}
+use Rattle.rules.specs.Card.{refusalIn, pinIn}
 use Rattle.rules.specs.Computing.{the-card}
 use Rattle.rules.specs.CaseForms.{sample}
-use Rattle.card.specs.Contracts.{stepLeaves, stepAnswer, runLeaves, runAnswers, runRefused, flagsOf, flagsRefused, flagsHeld}
-use Rattle.card.specs.Cases.{Steps-answer, Runs-answer, Flags-told}
+use Rattle.volatile.specs.Packed.{unpacked, goneOn}
+use Rattle.card.specs.Contracts.{stepLeaves, stepAnswer, walkOf, runLeaves, runAnswers, runRefused, flagsOf, flagsRefused, flagsHeld}
+use Rattle.card.specs.Cases.{Steps-answer, Steps-told, Walks, Runs-answer, Flags-told}
 
 pub steps-answer : Steps-answer
 unfolding the-card sample stepLeaves stepAnswer
@@ -23,6 +25,19 @@ steps-answer = (
   record { card = refl; answer = refl },
   record { card = refl; answer = refl },
 )
+
+pub steps-told : Steps-told
+unfolding the-card sample stepLeaves stepAnswer refusalIn pinIn
+steps-told = (
+  record { card = refl; pin = refl; refusal = refl },
+  record { card = refl; pin = refl; refusal = refl },
+  record { card = refl; pin = refl; refusal = refl },
+  record { card = refl; pin = refl; refusal = refl },
+)
+
+pub walks : Walks
+unfolding the-card sample walkOf goneOn unpacked
+walks = (refl, refl, refl, refl, refl)
 
 pub runs-answer : Runs-answer
 unfolding the-card sample runLeaves runAnswers runRefused

@@ -6,12 +6,16 @@ use Rattle.memory.proofs.Determined.{determined}
 use Rattle.rules.specs.declared.Answer.{Answer}
 use Rattle.volatile.specs.Packed.{Given, given}
 use Rattle.card.specs.declared.Stepped.{Stepped}
+use Rattle.card.specs.declared.Told.{Told}
 use Rattle.card.specs.declared.Ran.{Ran}
-use Rattle.card.specs.Contracts.{StepAnswered, RunAnswered}
+use Rattle.card.specs.Contracts.{StepAnswered, StepTold, RunAnswered}
 
 -- An answer by the card that is left and what else is told.
 stepAs : Given → Answer → Stepped
 stepAs d answer = record { fuses = d .fuses; volatile = d .half; answer = answer }
+
+toldAs : Given → ℕ → ℕ → Told
+toldAs d pin refusal = record { fuses = d .fuses; volatile = d .half; pin = pin; refusal = refusal }
 
 runAs : Given → ℕ → ℕ → Ran
 runAs d done refusal = record { fuses = d .fuses; volatile = d .half; done = done; refusal = refusal }
@@ -24,6 +28,15 @@ module _ (g : Given) (after after′ : List ℕ) where
       let card = determined (p .card) (q .card) in
       let same : stepAs (given after (r .fuses) (r .volatile)) (r .answer) ≡ stepAs (given after′ (r′ .fuses) (r′ .volatile)) (r′ .answer) =
       cc (card, determined (p .answer) (q .answer)) in
+      (same, ap (λ (d : Given). d .memory) card)
+
+  pub told-determined : (n : ℕ) (r r′ : Told) → StepTold g n r after → StepTold g n r′ after′ → (r ≡ r′) × (after ≡ after′)
+  unfolding toldAs
+  told-determined n r r′ p q =
+      let card = determined (p .card) (q .card) in
+      let same :
+      toldAs (given after (r .fuses) (r .volatile)) (r .pin) (r .refusal) ≡ toldAs (given after′ (r′ .fuses) (r′ .volatile)) (r′ .pin) (r′ .refusal) =
+      cc (card, determined (p .pin) (q .pin), determined (p .refusal) (q .refusal)) in
       (same, ap (λ (d : Given). d .memory) card)
 
   pub run-determined :

@@ -3,6 +3,8 @@ use Prim.Native.Nat.{ℕ}
 use mathlib.Core.Bool.{Bool, not}
 use lib.Dec.{eqb}
 use Rattle.volatile.specs.Packed.{one}
+use Rattle.card.specs.declared.Told.{Told}
+use Rattle.card.specs.declared.Walked.{Walked}
 use Rattle.card.specs.declared.FlagsAnswer.{FlagsAnswer}
 use Rattle.card.specs.Contracts.{flagsRefused, flagsHeld}
 use Rattle.maker.specs.declared.Made.{Made}
@@ -11,10 +13,18 @@ use Rattle.file.specs.declared.CardFile.{CardFile}
 use Rattle.file.specs.declared.Session.{Session}
 use Rattle.file.specs.declared.Session.the-variants as session
 use Rattle.file.specs.Opening.{cardNumber, cardFuses, sessionNumber, sessionFuses, sessionSteps}
+use Rattle.exports.specs.declared.steps.ZhavStepped.{ZhavStepped}
 use Rattle.exports.specs.declared.steps.ZhavFlags.{ZhavFlags}
 use Rattle.exports.specs.declared.acts.ZhavMade.{ZhavMade}
 use Rattle.exports.specs.declared.openers.ZhavCard.{ZhavCard}
 use Rattle.exports.specs.declared.openers.ZhavSession.{ZhavSession}
+
+-- A walk and a step.
+abbrev pub ofWalk : Walked → ℕ → ZhavStepped
+ofWalk w fuses = record { half = w .volatile; fuses = fuses; answer = w .pin; refusal = 0 }
+
+abbrev pub ofStep : Told → ZhavStepped
+ofStep s = record { half = s .volatile; fuses = s .fuses; answer = s .pin; refusal = s .refusal }
 
 -- The flags, 1 for one that holds, and none where refused.
 unfoldable pub flagBytes : FlagsAnswer → ZhavFlags

@@ -4,9 +4,11 @@ ghost use Rattle.rules.specs.Halves.{fresh};
 ghost use Rattle.rules.specs.Card.{triesLeft};
 ghost use Rattle.volatile.specs.Packed.{packed, given};
 ghost use Rattle.card.specs.Contracts.{flagsOf};
-ghost use Rattle.exports.specs.Rendered.{flagBytes};
+ghost use Rattle.exports.specs.Rendered.{ofWalk, ofStep, flagBytes};
 ghost use Rattle.exports.specs.Told.{StepTold, StepToldAt, RunTold};
 use card::FlagsAnswer;
+use card::Told;
+use card::Walked;
 use volatile::Volatile;
 
 // The result of a step: both halves, the pin's answer, 1 where refused, and the refusal, 0 if none.
@@ -53,22 +55,22 @@ pub extern "C" fn zhav_fresh() -> Volatile
     Volatile::fresh()
 }
 
-// One step. A walk is told at once.
-#[no_mangle]
-pub extern "C" fn zhav_step(image: &mut [u8], fuses: u8, v: Volatile, n: u8) -> ZhavStepped
-    ensures { λ r. ⌜ StepTold (given (now (image .entry)) fuses v) n r (now (image .exit)) ⌝ }
+// A walk and a step in these numbers.
+fn of_walk(w: Walked, fuses: u8) -> ZhavStepped
+    ensures { λ r. ⌜ r ≡ ofWalk w fuses ⌝ }
 {
-    let w = card::walk_step(image, fuses, v, n);
-    if w.pin != card::NO_WALK {
-        let next = w.volatile;
-        return ZhavStepped {
-            half: next,
-            fuses: fuses,
-            answer: w.pin,
-            refusal: 0,
-        };
+    let next = w.volatile;
+    ZhavStepped {
+        half: next,
+        fuses: fuses,
+        answer: w.pin,
+        refusal: 0,
     }
-    let s = card::step_told(image, fuses, v, n);
+}
+
+fn of_step(s: Told) -> ZhavStepped
+    ensures { λ r. ⌜ r ≡ ofStep s ⌝ }
+{
     let next = s.volatile;
     ZhavStepped {
         half: next,
@@ -78,28 +80,27 @@ pub extern "C" fn zhav_step(image: &mut [u8], fuses: u8, v: Volatile, n: u8) -> 
     }
 }
 
+// One step. A walk is told at once.
+#[no_mangle]
+pub extern "C" fn zhav_step(image: &mut [u8], fuses: u8, v: Volatile, n: u8) -> ZhavStepped
+    ensures { λ r. ⌜ StepTold (given (now (image .entry)) fuses v) n r (now (image .exit)) ⌝ }
+{
+    let w = card::walk_step(image, fuses, v, n);
+    if w.pin != card::NO_WALK {
+        return of_walk(w, fuses);
+    }
+    of_step(card::step_told(image, fuses, v, n))
+}
+
 // The same for `zhav_step_at` alone: a function with one caller becomes part of it, one with two is called.
 fn step_lent(image: &mut [u8], fuses: u8, v: Volatile, n: u8) -> ZhavStepped
     ensures { λ r. ⌜ StepTold (given (now (image .entry)) fuses v) n r (now (image .exit)) ⌝ }
 {
     let w = card::walk_step(image, fuses, v, n);
     if w.pin != card::NO_WALK {
-        let next = w.volatile;
-        return ZhavStepped {
-            half: next,
-            fuses: fuses,
-            answer: w.pin,
-            refusal: 0,
-        };
+        return of_walk(w, fuses);
     }
-    let s = card::step_told(image, fuses, v, n);
-    let next = s.volatile;
-    ZhavStepped {
-        half: next,
-        fuses: s.fuses,
-        answer: s.pin,
-        refusal: s.refusal,
-    }
+    of_step(card::step_told(image, fuses, v, n))
 }
 
 // One step on a volatile half that is lent: what stands there afterwards is the half that the step hands back.

@@ -1,5 +1,6 @@
 use native.Mathlib.Omega.{arith}
 use Rattle.card.proofs.AtOnce.{walk-told}
+use Rattle.exports.proofs.Shown.{as-told}
 use borrow.Author.Needs.{needs}
 use Rattle.exports.proofs.steps.zhav_step.Statement.{statement}
 use Rattle.exports.proofs.steps.zhav_step.Tie as tie
@@ -8,10 +9,21 @@ returns : tie.Need-returns
 returns c =
     let walk = c .before .before .before in
     let start = walk .before .before .before in
-    let told = walk-told _ _ (omega (arith, start .fits)) (walk .walk-step .ensures) (c .before .if1 .taken) in
-    record { card = told .card; answer = told .pin; refusal = told .refusal }
+    rw (c .of-walk .ensures)
+    (as-told (walk-told _ _ (omega (arith, start .fits)) (walk .walk-step .ensures) (c .before .if1 .taken)))
+
+returns-2 : tie.Need-returns-2
+returns-2 c = rw (c .of-step .ensures) (as-told (c .before .before .before .step-told .ensures))
 
 pub zhav-step-spec : {M : Type 1} → statement M
 zhav-step-spec =
     tie.close
-    (tie.spec (λ c κs. search needs) (λ c. search needs) returns (λ c κs. search needs) (λ c. search needs) (λ c. search needs))
+    (tie.spec
+    (λ c κs. search needs)
+    (λ c κs. search needs)
+    (λ c. search needs)
+    returns
+    (λ c κs. search needs)
+    (λ c κs. search needs)
+    (λ c. search needs)
+    returns-2)
