@@ -48,7 +48,10 @@ module _ (g : Given) (word : g .half .flags ≤ 127) where
 
     pub run-leaves-as-checked : runLeaves g steps room ≡ handedBack (checkedRun (cardOf g) steps room .card)
     unfolding runLeaves checkedRun
-    run-leaves-as-checked = rw run-refusals (again (eqb k 0) (run (cardOf g) steps .card) ∙ ap handedBack (part (λ (r : Ran). r .card) (eqb k 0) (run (cardOf g) steps) (ended (cardOf g) k)))
+    run-leaves-as-checked =
+        rw run-refusals
+        (again (eqb k 0) (run (cardOf g) steps .card) ∙
+        ap handedBack (part (λ (r : Ran). r .card) (eqb k 0) (run (cardOf g) steps) (ended (cardOf g) k)))
 
     pub run-answers-as-checked : runAnswers g steps room ≡ checkedRun (cardOf g) steps room .answers
     unfolding runAnswers checkedRun

@@ -29,7 +29,7 @@ use Rattle.card.specs.Moves.{Ready, Steps, Shows, Calm}
 use Rattle.rules.specs.Lines.{change}
 use Rattle.card.proofs.Turned.{Turned, small-step, by-difference, turned-by}
 use Rattle.card.proofs.ByLine.{Goes, turned, goes-to, clk-rises, clk-walks}
-use Rattle.card.proofs.Walks.{plain-by, plain-clocked}
+use Rattle.card.proofs.Walks.{plain-clocked}
 use Rattle.card.proofs.Loop.{ready-at}
 use Rattle.card.proofs.Answers.{step-done}
 
@@ -41,7 +41,9 @@ pub record Still (n : ℕ) : Type 0 where
   pub rst : digit 1 n ≡ false
   pub pgm : high PGM n ≡ false
 
-still-byte : (n : ℕ) → n < 256 → bitAnd n 203 ≡ 1 → (ltb n 64 && (eqb (bitAnd n 11) 1 && (digit 0 n && (not (digit 1 n) && not (digit 3 n))))) ≡ true
+still-byte :
+    (n : ℕ) → n < 256 → bitAnd n 203 ≡ 1 →
+    (ltb n 64 && (eqb (bitAnd n 11) 1 && (digit 0 n && (not (digit 1 n) && not (digit 3 n))))) ≡ true
 unfolding all digit
 still-byte n h e =
     below-then 256 (λ x. eqb (bitAnd x 203) 1)
@@ -66,7 +68,9 @@ still n h e =
 unfoldable flags-calm : ℕ → ℕ → Bool
 flags-calm levels flags = digit 0 levels && (not (digit 3 levels) && (eqb (flags / 8) 0 || eqb (flags / 8) (bitAnd levels 4 / 2)))
 
-calm-wired : (levels flags : ℕ) → levels < 64 → flags < 32 → (not (flags-calm levels flags) || (wired levels flags && not (digit 3 flags))) ≡ true
+calm-wired :
+    (levels flags : ℕ) → levels < 64 → flags < 32 →
+    (not (flags-calm levels flags) || (wired levels flags && not (digit 3 flags))) ≡ true
 unfolding all flags-calm wired digit
 calm-wired = below₂ 64 32 (λ l f. not (flags-calm l f) || (wired l f && not (digit 3 f))) refl
 
@@ -136,14 +140,16 @@ module _ {g : Given} {n : ℕ} (c : Calm g n) where
   unfolding high place goneOn
   goes-by true e _ = clk-rises is-ready n t (levels .vcc) e
   goes-by false e plain =
-      clk-walks is-ready n t (levels .vcc) e idle (levels .rst) (after false) (plain-clocked g n (plain-by (g .half .address + 1) plain))
+      clk-walks is-ready n t (levels .vcc) e idle (levels .rst) (after false) (plain-clocked g n plain)
 
   walk-goes : plainAt (walkedHalf (g .half) n .address) ≡ true → Goes is-ready n (after (digit 2 n))
   unfolding walkedHalf packed
   walk-goes plain = goes-by (digit 2 n) refl plain
 
   -- What the pin shows after it.
-  as-held : (u : Halves.Volatile) {r : ℕ} → Shows (u .address) (packed u .flags) r → r < 2 → mayRead (held (g .fuses) u) (zone (u .address)) ≡ eqb r 1
+  as-held :
+      (u : Halves.Volatile) {r : ℕ} → Shows (u .address) (packed u .flags) r → r < 2 →
+      mayRead (held (g .fuses) u) (zone (u .address)) ≡ eqb r 1
   unfolding unpacked
   as-held u shows less =
       shows .read less (g .fuses) u (ap (λ (v : Halves.Volatile). v .sv) (sym (unpacked-packed u)))
@@ -202,7 +208,9 @@ module _ (g : Given) (n : ℕ) where
   unfolding walkOf
   walk-told {w} byte is other = go (walks g n) refl
     where
-      go : (b : Bool) → walks g n ≡ b → StepTold g n (record { fuses = g .fuses; volatile = w .volatile; pin = w .pin; refusal = 0 }) (g .memory)
+      go :
+          (b : Bool) → walks g n ≡ b →
+          StepTold g n (record { fuses = g .fuses; volatile = w .volatile; pin = w .pin; refusal = 0 }) (g .memory)
       go true e = let p = all-pass byte e in rw (is, e) (told (p .0) (p .1))
       go false e = let same : w ≡ noWalk (g .half) = is ∙ rw e in absurd (other (ap (λ (x : Walked). x .pin) same))
 

@@ -47,7 +47,16 @@ same-sides false x = refl
 programming-set : (v : Halves.Volatile) → v .programming ≡ true → anySet v ≡ true
 unfolding anySet
 programming-set v e =
-    rw (e, or-true (v .latch), or-true (v .matched), or-true (v .e1), or-true (v .r1), or-true (v .p1), or-true (v .sv), or-true (not (eqb (v .address) 0)))
+    rw (
+      e,
+      or-true (v .latch),
+      or-true (v .matched),
+      or-true (v .e1),
+      or-true (v .r1),
+      or-true (v .p1),
+      or-true (v .sv),
+      or-true (not (eqb (v .address) 0)),
+    )
 
 or-not : (a b : Bool) → not (a || b) ≡ (not a && not b)
 or-not true b = refl
@@ -87,7 +96,9 @@ module _ {g : Given} {p : ℕ} (ready : Ready g p) where
 
   pub power-on : unpacked (g .half) .programming ≡ true → high VCC (g .half .lines) ≡ true
   unfolding unpacked
-  power-on q = not-false (high VCC (g .half .lines)) (rw (programming-set (unpacked (g .half)) q, and-true (not (high VCC (g .half .lines)))) at (half-sound .unpowered))
+  power-on q =
+      let vcc = high VCC (g .half .lines) in
+      not-false vcc (rw (programming-set (unpacked (g .half)) q, and-true (not vcc)) at (half-sound .unpowered))
 
 module _ {g : Given} {p : ℕ} (ready : Ready g p) (n : ℕ) where
   abbrev w : Halves.Volatile
@@ -230,8 +241,11 @@ module _ {g : Given} {p : ℕ} (ready : Ready g p) (n : ℕ) where
       -- It rises, or VCC is off.
       pub rst-follows : (bitAnd n 3 ≡ 1 → ⊥) → Goes (follows n w)
       unfolding powered change place
-      rst-follows h = go (high VCC l) (high RST l) refl refl (rw (t .others VCC refl, t .over) at (sym (vcc-rst n) ∙ ne-eqb (bitAnd n 3) 1 h))
+      rst-follows h = go (high VCC l) (high RST l) refl refl (rw (t .others VCC refl, t .over) at no-fall)
         where
+          no-fall : (high VCC n && not (high RST n)) ≡ false
+          no-fall = sym (vcc-rst n) ∙ ne-eqb (bitAnd n 3) 1 h
+
           go : (a b : Bool) → high VCC l ≡ a → high RST l ≡ b → (a && not (not b)) ≡ false → Goes (follows n w)
           go true true vcc rst e = absurd (false≢true (sym e))
           go true false vcc rst e = on-goes (follows n w) t (rst-refusal l (w .programming) ∙ rw (vcc, q, rst)) vcc (rw rst)
@@ -383,7 +397,8 @@ module _ {g : Given} {p : ℕ} (ready : Ready g p) (n : ℕ) where
   pub same-step : bitXor l n ≡ 0 → Steps g p n g p 0
   unfolding by-difference powered follows unpacked
   same-step d =
-      rw (packed-unpacked (g .half) (flags-small (g .half) (ready .sound)), sym (ready .pinned)) at (goes-to card none (there (high VCC l) refl))
+      rw (packed-unpacked (g .half) (flags-small (g .half) (ready .sound)), sym (ready .pinned)) at
+      (goes-to card none (there (high VCC l) refl))
     where
       small : n < 64
       small = small-step l n (levels-small ready) (rw d (omega arith))

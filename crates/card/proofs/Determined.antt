@@ -35,7 +35,8 @@ module _ (g : Given) (after after′ : List ℕ) where
   told-determined n r r′ p q =
       let card = determined (p .card) (q .card) in
       let same :
-      toldAs (given after (r .fuses) (r .volatile)) (r .pin) (r .refusal) ≡ toldAs (given after′ (r′ .fuses) (r′ .volatile)) (r′ .pin) (r′ .refusal) =
+      toldAs (given after (r .fuses) (r .volatile)) (r .pin) (r .refusal) ≡
+      toldAs (given after′ (r′ .fuses) (r′ .volatile)) (r′ .pin) (r′ .refusal) =
       cc (card, determined (p .pin) (q .pin), determined (p .refusal) (q .refusal)) in
       (same, ap (λ (d : Given). d .memory) card)
 
@@ -45,6 +46,8 @@ module _ (g : Given) (after after′ : List ℕ) where
   unfolding runAs
   run-determined steps answers r r′ told told′ p q =
       let card = determined (p .card) (q .card) in
-      let same : runAs (given after (r .fuses) (r .volatile)) (r .done) (r .refusal) ≡ runAs (given after′ (r′ .fuses) (r′ .volatile)) (r′ .done) (r′ .refusal) =
+      let same :
+      runAs (given after (r .fuses) (r .volatile)) (r .done) (r .refusal) ≡
+      runAs (given after′ (r′ .fuses) (r′ .volatile)) (r′ .done) (r′ .refusal) =
       cc (card, determined (p .done) (q .done), determined (p .refusal) (q .refusal)) in
       (same, ap (λ (d : Given). d .memory) card, determined (p .pins) (q .pins))

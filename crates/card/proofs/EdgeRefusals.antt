@@ -50,7 +50,9 @@ module _ (levels : ℕ) (programming : Bool) where
   abbrev pgm : Bool
   pgm = high PGM levels
 
-  as-chain : (x : Line) (t : Bool) → high x levels ≡ t → edgeRefusal (change x levels) levels programming ≡ chain (cond t (Falls x) (Rises x)) vcc programming clk pgm
+  as-chain :
+      (x : Line) (t : Bool) → high x levels ≡ t →
+      edgeRefusal (change x levels) levels programming ≡ chain (cond t (Falls x) (Rises x)) vcc programming clk pgm
   unfolding edgeRefusal chain change
   as-chain x t e = rw e
 
@@ -84,13 +86,15 @@ module _ (levels : ℕ) (programming : Bool) where
   unfolding chain
   pgm-refusal =
       as-chain PGM pgm refl ∙
-      one-rule (λ t a b c d. chain (cond t (Falls PGM) (Rises PGM)) a b c t) (λ t a b c d. cond (a && (c && not t)) 6 0) refl pgm vcc programming clk pgm
+      one-rule (λ t a b c d. chain (cond t (Falls PGM) (Rises PGM)) a b c t) (λ t a b c d. cond (a && (c && not t)) 6 0) refl
+      pgm vcc programming clk pgm
 
   pub vcc-refusal : edgeRefusal (change VCC levels) levels programming ≡ cond (not vcc && (clk || pgm)) 7 0
   unfolding chain
   vcc-refusal =
       as-chain VCC vcc refl ∙
-      one-rule (λ t a b c d. chain (cond t (Falls VCC) (Rises VCC)) t b c d) (λ t a b c d. cond (not t && (c || d)) 7 0) refl vcc vcc programming clk pgm
+      one-rule (λ t a b c d. chain (cond t (Falls VCC) (Rises VCC)) t b c d) (λ t a b c d. cond (not t && (c || d)) 7 0) refl
+      vcc vcc programming clk pgm
 
   pub same-refusal : edgeRefusal Same levels programming ≡ 0
   unfolding chain edgeRefusal

@@ -41,7 +41,9 @@ module _ (v : Volatile) (n : ℕ) where
 
     pub fus-quick : bitXor (v .lines) n ≡ mask FUS → QuickTo v n (To (packed (follows n (unpacked v))))
     unfolding place
-    fus-quick e = quick-by FUS (follows n (unpacked v)) e (λ m fuses p ready t. fus-goes ready n t (idle ready (sym (t .others CLK refl) ∙ clk)))
+    fus-quick e =
+        quick-by FUS (follows n (unpacked v)) e
+        (λ m fuses p ready t. fus-goes ready n t (idle ready (sym (t .others CLK refl) ∙ clk)))
 
     module _ (e : bitXor (v .lines) n ≡ mask RST) where
       pub rst-rises-quick : (bitAnd n 3 ≡ 1 → ⊥) → QuickTo v n (To (packed (follows n (unpacked v))))

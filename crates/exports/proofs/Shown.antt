@@ -32,14 +32,18 @@ as-byte true = refl
 as-byte false = refl
 
 -- An act's promise, in the numbers of its answer.
-pub act-told : {k : ℕ} {steps buffer after : List ℕ} {m : Made} {r : ZhavMade} → Acted k steps buffer m after → r ≡ madeOf m → ActTold k steps buffer r after
+pub act-told :
+    {k : ℕ} {steps buffer after : List ℕ} {m : Made} {r : ZhavMade} → Acted k steps buffer m after → r ≡ madeOf m →
+    ActTold k steps buffer r after
 act-told {steps = steps} {buffer = buffer} acted told =
     record {
       answer = told ∙ ap madeOf (acted .answer);
       bytes = acted .bytes ∙ ap (λ (m : Made). inBuffer m steps buffer) (acted .answer);
     }
 
-pub card-told : {file memory after : List ℕ} {s : CardFile} {r : ZhavCard} → CardOpened file memory s after → r ≡ cardFileOf s → CardTold file memory r after
+pub card-told :
+    {file memory after : List ℕ} {s : CardFile} {r : ZhavCard} → CardOpened file memory s after → r ≡ cardFileOf s →
+    CardTold file memory r after
 card-told {file = file} {memory = memory} opened told =
     record {
       answer = told ∙ ap cardFileOf (opened .answer);
@@ -47,7 +51,9 @@ card-told {file = file} {memory = memory} opened told =
     }
 
 -- The steps of an opened session are the file's step section, none where refused.
-section-of : (file : List ℕ) (room : ℕ) → take (sessionOf (sessionAnswer file room) .steps) (drop (sessionOf (sessionAnswer file room) .first) file) ≡ handedSteps file room
+section-of :
+    (file : List ℕ) (room : ℕ) →
+    take (sessionOf (sessionAnswer file room) .steps) (drop (sessionOf (sessionAnswer file room) .first) file) ≡ handedSteps file room
 unfolding sessionOf stepsFrom sessionSteps sessionAnswer handedSteps stepSection
 section-of file room = go (eqb (sessionRefusal file room) 0)
   where
@@ -58,7 +64,9 @@ section-of file room = go (eqb (sessionRefusal file room) 0)
     go true = refl
     go false = refl
 
-pub session-told : {file memory after : List ℕ} {s : Session} {r : ZhavSession} → SessionOpened file memory s after → r ≡ sessionOf s → SessionTold file memory r after
+pub session-told :
+    {file memory after : List ℕ} {s : Session} {r : ZhavSession} → SessionOpened file memory s after → r ≡ sessionOf s →
+    SessionTold file memory r after
 session-told {file = file} {memory = memory} opened told =
     let answer : _ ≡ sessionOf (sessionAnswer file (length memory)) = told ∙ ap sessionOf (opened .answer) in
     record {

@@ -12,7 +12,8 @@ use Rattle.card.proofs.drive.Statement.{statement}
 use Rattle.card.proofs.drive.Tie as tie
 
 abbrev Inv-loop : tie.InvT-loop
-Inv-loop image₀ fuses steps answers₀ f₀ s₀ p₀ i₀ image answers f s p i = Going (given image₀ f₀ s₀) steps answers₀ (given image f s) answers p i
+Inv-loop image₀ fuses steps answers₀ f₀ s₀ p₀ i₀ image answers f s p i =
+    Going (given image₀ f₀ s₀) steps answers₀ (given image f s) answers p i
 
 abbrev μ-loop : tie.MeasureT-loop
 μ-loop image₀ fuses steps answers₀ f₀ s₀ p₀ i₀ image answers f s p i = length steps - i
@@ -51,7 +52,9 @@ slice-write-answers c =
 add-i : tie.Need-add-i Inv-loop μ-loop
 add-i c =
     let going = c .before .before .before .before .before .before .before .before in
-    omega (arith, going .loop-test .taken, going .before .loop .inv .room, going .before .before .before .before .before .before .before .good)
+    let inv = going .before .loop .inv in
+    let start = going .before .before .before .before .before .before .before in
+    omega (arith, going .loop-test .taken, inv .room, start .good)
 
 loop-less : tie.Need-loop-less Inv-loop μ-loop
 loop-less c = omega (arith, c .before .before .before .before .before .before .before .before .loop-test .taken)

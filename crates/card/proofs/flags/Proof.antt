@@ -11,7 +11,16 @@ returns c = rw (sym (c .before .made-up .ensures) ∙ c .if1 .taken)
 
 returns-2 : tie.Need-returns-2
 unfolding flagsOf unpacked
-returns-2 c = rw (sym (c .before .before .before .before .before .made-up .ensures) ∙ c .before .before .before .before .if1 .left, c .before .before .before .is-set .ensures, c .before .before .is-set2 .ensures, c .before .is-set3 .ensures, c .is-set4 .ensures)
+returns-2 c =
+    let first = c .before .before .before in
+    let sound = first .before in
+    rw (
+      sym (sound .before .made-up .ensures) ∙ sound .if1 .left,
+      first .is-set .ensures,
+      c .before .before .is-set2 .ensures,
+      c .before .is-set3 .ensures,
+      c .is-set4 .ensures,
+    )
 
 pub flags-spec : {M : Type 1} → statement M
 flags-spec =

@@ -12,7 +12,8 @@ returns c = rw (c .none .ensures) (not-still _ _ (c .before .if1 .taken))
 returns-2 : tie.Need-returns-2
 returns-2 c =
     let asked = c .before in
-    rw (c .none2 .ensures) (not-calm _ _ (sym (asked .before .is-calm .ensures) ∙ not-true (asked .before .is-calm .result) (asked .if2 .taken)))
+    let test = asked .before .is-calm in
+    rw (c .none2 .ensures) (not-calm _ _ (sym (test .ensures) ∙ not-true (test .result) (asked .if2 .taken)))
 
 returns-3 : tie.Need-returns-3
 returns-3 c = rw (c .none3 .ensures) (too-far _ _ (c .before .if3 .taken))

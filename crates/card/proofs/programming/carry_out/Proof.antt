@@ -1,10 +1,11 @@
 use Prim.Native.Nat.{ℕ}
-use mathlib.Core.Path.{refl, ap}
+use mathlib.Core.Path.{_≡_, refl, ap}
 use mathlib.Core.Bool.{Bool, false}
 use Rattle.memory.specs.Image.{cleared}
 use Rattle.memory.proofs.Below.{all}
 use Rattle.rules.specs.Halves.{blown, fusePlace}
 use Rattle.rules.specs.Programming.{memoryAfter, fusesAfter, turns}
+use Rattle.card.specs.declared.programming.Done.{Done}
 use Rattle.card.specs.Moves.{doneBy}
 use Rattle.card.proofs.Fuses.{mask-blows}
 use borrow.Author.Needs.{needs}
@@ -14,13 +15,22 @@ use Rattle.card.proofs.programming.carry_out.Tie as tie
 enum-told : tie.Need-enum-told
 enum-told c = search needs
 
+-- The fuses by a mask, and nothing turned.
+blows : {f g : ℕ} → f ≡ g → _≡_ {A = Done} (record { fuses = f; turned = false }) (record { fuses = g; turned = false })
+blows e = ap (λ (f : ℕ). record { fuses = f; turned = false }) e
+
 returns : tie.Need-returns
 unfolding doneBy memoryAfter fusesAfter turns blown fusePlace all cleared
 returns c = rw (c .enum-told .given .1) (refl, refl)
 
 returns-2 : tie.Need-returns-2
 unfolding doneBy memoryAfter fusesAfter turns blown fusePlace all cleared
-returns-2 c = rw (c .before .before .before .before .before .before .enum-told2 .given .1) (ap (λ (t : Bool). record { fuses = c .before .before .before .before .before .before .before .before .before .args .fuses; turned = t }) (c .before .before .before .before .read-bit .ensures), c .before .before .write-bit .ensures)
+returns-2 c =
+    let read = c .before .before .before .before in
+    let told = read .before .before in
+    let start = told .before .before .before in
+    rw (told .enum-told2 .given .1)
+    (ap (λ (t : Bool). record { fuses = start .args .fuses; turned = t }) (read .read-bit .ensures), c .before .before .write-bit .ensures)
 
 returns-3 : tie.Need-returns-3
 unfolding doneBy memoryAfter fusesAfter turns blown fusePlace all cleared
@@ -40,15 +50,21 @@ returns-6 c = rw (c .before .before .before .before .enum-told6 .given .1) (refl
 
 returns-7 : tie.Need-returns-7
 unfolding doneBy memoryAfter fusesAfter turns blown fusePlace all cleared
-returns-7 c = rw (c .enum-told7 .given .1) (ap (λ (f : ℕ). record { fuses = f; turned = false }) (mask-blows 0 6 refl (c .before .before .before .args .fuses) (c .before .before .before .pre)), refl)
+returns-7 c =
+    let start = c .before .before .before in
+    rw (c .enum-told7 .given .1) (blows (mask-blows 0 6 refl (start .args .fuses) (start .pre)), refl)
 
 returns-8 : tie.Need-returns-8
 unfolding doneBy memoryAfter fusesAfter turns blown fusePlace all cleared
-returns-8 c = rw (c .enum-told8 .given .1) (ap (λ (f : ℕ). record { fuses = f; turned = false }) (mask-blows 1 5 refl (c .before .before .before .args .fuses) (c .before .before .before .pre)), refl)
+returns-8 c =
+    let start = c .before .before .before in
+    rw (c .enum-told8 .given .1) (blows (mask-blows 1 5 refl (start .args .fuses) (start .pre)), refl)
 
 returns-9 : tie.Need-returns-9
 unfolding doneBy memoryAfter fusesAfter turns blown fusePlace all cleared
-returns-9 c = rw (c .enum-told9 .given .1) (ap (λ (f : ℕ). record { fuses = f; turned = false }) (mask-blows 2 3 refl (c .before .before .before .args .fuses) (c .before .before .before .pre)), refl)
+returns-9 c =
+    let start = c .before .before .before in
+    rw (c .enum-told9 .given .1) (blows (mask-blows 2 3 refl (start .args .fuses) (start .pre)), refl)
 
 pub carry-out-spec : {M : Type 1} → statement M
 carry-out-spec =

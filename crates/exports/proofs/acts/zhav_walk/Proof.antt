@@ -4,4 +4,7 @@ use Rattle.exports.proofs.acts.zhav_walk.Statement.{statement}
 use Rattle.exports.proofs.acts.zhav_walk.Tie as tie
 
 pub zhav-walk-spec : {M : Type 1} → statement M
-zhav-walk-spec = tie.close (tie.spec (λ c κs. search needs) (λ c κs. search needs) (λ c. search needs) (λ c. act-told (c .before .before .before .walk .ensures) (c .told .ensures)))
+zhav-walk-spec =
+    tie.close
+    (tie.spec (λ c κs. search needs) (λ c κs. search needs) (λ c. search needs)
+    (λ c. act-told (c .before .before .before .walk .ensures) (c .told .ensures)))
