@@ -23,7 +23,7 @@ use Rattle.volatile.specs.Packed.{packed, unpacked, Given, cardOf, handedBack, 
 use Rattle.volatile.proofs.Packing.{unpacked-packed, packed-unpacked}
 use Rattle.card.specs.Moves.{Ready, Steps, programmedCard}
 use Rattle.card.proofs.Turned.{by-difference, edge-by-difference, small-step, Turned, turned-by}
-use Rattle.card.proofs.Masks.{vcc-clk-pgm, vcc-rst, clk-pgm, high-low}
+use Rattle.card.proofs.LineMasks.{vcc-clk-pgm, vcc-rst, clk-pgm, high-low}
 use Rattle.card.proofs.EdgeRefusals.{same-refusal, clk-refusal, pgm-refusal, rst-refusal, fus-refusal, io-refusal, vcc-refusal}
 
 -- 9's clauses, of a packed half.

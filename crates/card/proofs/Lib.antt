@@ -2,7 +2,7 @@ pub mod AgainstCases
 pub mod Fuses
 pub mod Ones
 pub mod Turned
-pub mod Masks
+pub mod LineMasks
 pub mod EdgeRefusals
 pub mod ByLine
 pub mod HandedOn

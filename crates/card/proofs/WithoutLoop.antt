@@ -17,7 +17,7 @@ use Rattle.card.specs.declared.quick.Quick.the-variants.{To}
 use Rattle.card.specs.Moves.{Ready, QuickTo}
 use Rattle.card.specs.Contracts.{StepTold}
 use Rattle.card.proofs.Turned.{Turned}
-use Rattle.card.proofs.Masks.{vcc-clk, high-low}
+use Rattle.card.proofs.LineMasks.{vcc-clk, high-low}
 use Rattle.card.proofs.ByLine.{Goes, turned, idle, reads, pgm-goes, fus-goes, rst-follows, rst-falls}
 use Rattle.card.proofs.Loop.{ready-at}
 use Rattle.card.proofs.Answers.{step-done}

@@ -1,4 +1,5 @@
 // What each line does when it rises or falls, where image and fuses stay: all but CLK and VCC while programming is under way.
+use crate::masks;
 use crate::moved;
 use crate::moved::Moved;
 use crate::walk;
@@ -13,13 +14,6 @@ ghost use Rattle.rules.specs.Match.{following};
 ghost use Rattle.rules.specs.Steps.{clocked};
 ghost use Rattle.volatile.specs.Packed.{given, cardOf};
 ghost use Rattle.card.specs.Moves.{Ready, Moves, movedTo};
-
-// Masks of lines.
-const VCC_RST: u32 = 3;
-
-const CLK_PGM: u32 = 12;
-
-const VCC_CLK_PGM: u32 = 13;
 
 // The address goes up by one, 1519 going to 0.
 pub(crate) fn following(a: u32) -> u32
@@ -52,7 +46,7 @@ pub(crate) fn clock_falls(v: Volatile, image: &[u8], fuses: u8, pin: u8, n: u32)
     ensures { λ r. ⌜ Moves (given (now (image .entry)) fuses v) pin n r ⌝ }
 {
     let a = v.address + 1;
-    if n & 11 == 1 {
+    if n & masks::VCC_RST_PGM == 1 {
         let shown = walk::shows(a, v.flags);
         if shown != walk::APART {
             let bit = memory::read_bit(image, a as usize);
@@ -94,7 +88,7 @@ pub(crate) fn program(v: Volatile, image: &[u8], fuses: u8, pin: u8, n: u32) -> 
     requires line { ⌜ bitXor (v .lines) n ≡ 8 ⌝ }
     ensures { λ r. ⌜ Moves (given (now (image .entry)) fuses v) pin n r ⌝ }
 {
-    if n & VCC_CLK_PGM == VCC_CLK_PGM {
+    if n & masks::VCC_CLK_PGM == masks::VCC_CLK_PGM {
         return moved::refused(v, pin, 6);
     }
     moved::read(v.follows(n), image, fuses)
@@ -109,7 +103,7 @@ pub(crate) fn reset(v: Volatile, image: &[u8], fuses: u8, pin: u8, n: u32) -> Mo
     if is_set(v.flags, volatile::PROGRAMMING) {
         return moved::refused(v, pin, 3);
     }
-    if n & VCC_RST != 1 {
+    if n & masks::VCC_RST != 1 {
         return moved::read(v.follows(n), image, fuses);
     }
     if is_set(n, volatile::CLK) {
@@ -139,7 +133,7 @@ pub(crate) fn power(v: Volatile, image: &[u8], fuses: u8, pin: u8, n: u32) -> Mo
     if !is_set(n, volatile::VCC) {
         return moved::known(v.power_falls(n), volatile::RELEASED);
     }
-    if n & CLK_PGM != 0 {
+    if n & masks::CLK_PGM != 0 {
         return moved::refused(v, pin, 7);
     }
     moved::read(v.follows(n), image, fuses)

@@ -12,6 +12,7 @@ ghost use Rattle.card.specs.Contracts.{StepAnswered, StepTold, walkOf, R
 
 mod edges;
 mod inner_step;
+mod masks;
 mod moved;
 mod programming;
 mod quick;
@@ -131,7 +132,7 @@ pub fn walk_step(image: &[u8], fuses: u8, v: Volatile, n: u8) -> Walked
     ensures { λ r. ⌜ r ≡ walkOf (given (now (image .entry)) fuses v) n ⌝ }
 {
     let levels = n as u32;
-    if levels & walk::STILL != 1 {
+    if levels & masks::ALL_BUT_CLK_IO_FUS != 1 {
         return walk::none(v);
     }
     if !walk::is_calm(v, levels) {

@@ -1,4 +1,5 @@
 // The result of most steps that are no walk, which a single step tells without the loop of a run.
+use crate::masks;
 use memory::is_set;
 use volatile::Volatile;
 ghost use mathlib.Core.Path.{_≡_};
@@ -6,13 +7,6 @@ ghost use mathlib.Core.Bool.{true, false};
 ghost use lib.Bits.{bitXor, bitAnd};
 ghost use Rattle.memory.specs.Image.{digit};
 ghost use Rattle.card.specs.Moves.{QuickTo};
-
-// Masks of lines.
-const VCC_RST: u32 = 3;
-
-const VCC_CLK: u32 = 5;
-
-const VCC_CLK_PGM: u32 = 13;
 
 // The half after the step. Any other step is left to the run.
 pub(crate) enum Quick {
@@ -47,7 +41,7 @@ pub(crate) fn idle(v: Volatile, n: u32) -> Quick
         return Quick::To(v.follows(n));
     }
     if d == 2 {
-        if n & VCC_RST == 1 {
+        if n & masks::VCC_RST == 1 {
             return Quick::To(v.reset_falls(n));
         }
         return Quick::To(v.follows(n));
@@ -66,10 +60,10 @@ pub(crate) fn step(v: Volatile, n: u32) -> Quick
     if d == 16 {
         return Quick::To(v.follows(n));
     }
-    if (d == 8) & (n & VCC_CLK_PGM != VCC_CLK_PGM) {
+    if (d == 8) & (n & masks::VCC_CLK_PGM != masks::VCC_CLK_PGM) {
         return Quick::To(v.follows(n));
     }
-    if n & VCC_CLK == 1 {
+    if n & masks::VCC_CLK == 1 {
         return idle(v, n);
     }
     Quick::Other

@@ -19,9 +19,6 @@ pub(crate) const BIT: u8 = 1;
 // A compare, an arrival or the table of rights has a say.
 pub(crate) const APART: u8 = 2;
 
-// VCC, RST, PGM and what is no line.
-pub(crate) const STILL: u32 = 203;
-
 // What the pin shows at an address that a walk comes to.
 pub(crate) fn shows(a: u32, flags: u32) -> u8
     ensures { λ r. ⌜ Shows a flags r ⌝ }

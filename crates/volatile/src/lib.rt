@@ -47,6 +47,25 @@ pub const EC_EN: u32 = 1;
 
 pub const ISS: u32 = 2;
 
+// Masks of the flags: all of them, and all but those that an edge clears.
+const FLAGS: u32 = 127;
+
+const BUT_MATCH: u32 = 63;
+
+const BUT_MATCH_AND_E1: u32 = 31;
+
+const BUT_OPERATION: u32 = 103;
+
+const BUT_OPERATION_AND_MATCH: u32 = 39;
+
+// Programming and the latch together, as flags and as PGM and I/O in a step.
+const OPERATION: u32 = 24;
+
+// The flags SV and R1, of which one lets AZ be read; and VCC, RST and PGM, of which VCC alone must be high for the pin to be driven.
+const SV_OR_R1: u32 = 5;
+
+const VCC_RST_PGM: u32 = 11;
+
 // Of CLK, PGM, programming and the latch, as digits 0 to 3 of a place: the sixteen ways that they stand together, 1 for those that 9 lets
 // pass with VCC on.
 const WIRED: u32 = 0xa2a7;
@@ -144,7 +163,7 @@ impl Volatile {
         ensures { λ r. ⌜ r ≡ packed (follows n (unpacked self)) ⌝ }
     {
         self.lines = n;
-        self.flags = self.flags & 127;
+        self.flags = self.flags & FLAGS;
         self
     }
 
@@ -163,7 +182,7 @@ impl Volatile {
         ensures { λ r. ⌜ r ≡ packed (clkRises n (unpacked self)) ⌝ }
     {
         self.lines = n;
-        self.flags = (self.flags & 103) | (n & 24);
+        self.flags = (self.flags & BUT_OPERATION) | (n & OPERATION);
         self
     }
 
@@ -173,7 +192,7 @@ impl Volatile {
     {
         self.lines = n;
         self.address = 0;
-        self.flags = self.flags & 31;
+        self.flags = self.flags & BUT_MATCH_AND_E1;
         self
     }
 
@@ -183,9 +202,9 @@ impl Volatile {
     {
         self.lines = n;
         if matched {
-            self.flags = (self.flags & 39) | 64;
+            self.flags = (self.flags & BUT_OPERATION_AND_MATCH) | 64;
         } else {
-            self.flags = self.flags & 39;
+            self.flags = self.flags & BUT_OPERATION_AND_MATCH;
         }
         self
     }
@@ -196,7 +215,7 @@ impl Volatile {
     {
         self.lines = n;
         self.address = a;
-        self.flags = self.flags & 103;
+        self.flags = self.flags & BUT_OPERATION;
         self
     }
 
@@ -207,18 +226,18 @@ impl Volatile {
         let flags = self.flags;
         self.address = a;
         if a == 0 {
-            self.flags = flags & 31;
+            self.flags = flags & BUT_MATCH_AND_E1;
             return self;
         }
         if a == 104 {
-            self.flags = flags & 63;
+            self.flags = flags & BUT_MATCH;
             return self;
         }
         if a == 1360 {
-            self.flags = flags & 63;
+            self.flags = flags & BUT_MATCH;
             return self;
         }
-        self.flags = (flags & 127) | arrival(image, fuses, a, is_set(flags, MATCH));
+        self.flags = (flags & FLAGS) | arrival(image, fuses, a, is_set(flags, MATCH));
         self
     }
 
@@ -229,7 +248,7 @@ impl Volatile {
         let flags = self.flags;
         let keyed = turned & is_set(flags, MATCH);
         self.lines = n;
-        self.flags = (flags & 103) | opening(self.address, l1, ec_en, keyed);
+        self.flags = (flags & BUT_OPERATION) | opening(self.address, l1, ec_en, keyed);
         self
     }
 
@@ -270,7 +289,7 @@ impl Volatile {
             return true;
         }
         if a < 1200 {
-            return self.flags & 5 != 0;
+            return self.flags & SV_OR_R1 != 0;
         }
         if a < 1232 {
             return self.may_read_by_table(fuses);
@@ -292,7 +311,7 @@ impl Volatile {
     pub fn driven(self, fuses: u8) -> bool
         ensures { λ r. ⌜ r ≡ driven fuses (unpacked self) ⌝ }
     {
-        if self.lines & 11 != 1 {
+        if self.lines & VCC_RST_PGM != 1 {
             return false;
         }
         if is_set(self.flags, PROGRAMMING) {

@@ -1,6 +1,6 @@
 use mathlib.Core.Path.{sym, _∙_}
 use borrow.Author.Tests.{eqb-true}
-use Rattle.card.proofs.Masks.{both}
+use Rattle.card.proofs.LineMasks.{both}
 use Rattle.rules.specs.Lines.{VCC, high, place, mask}
 use Rattle.volatile.specs.Packed.{unpacked}
 use Rattle.card.proofs.ByLine.{turned, power-cut}

@@ -1,5 +1,5 @@
 use borrow.Author.Tests.{eqb-true, eqb-false}
-use Rattle.card.proofs.Masks.{high-low}
+use Rattle.card.proofs.LineMasks.{high-low}
 use Rattle.rules.specs.Lines.{IO, place, mask}
 use Rattle.card.specs.Moves.{QuickTo}
 use Rattle.card.proofs.ByLine.{io-goes}
