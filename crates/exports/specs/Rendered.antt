@@ -8,7 +8,7 @@ use Rattle.card.specs.declared.Walked.{Walked}
 use Rattle.card.specs.declared.FlagsAnswer.{FlagsAnswer}
 use Rattle.card.specs.Contracts.{flagsRefused, flagsHeld}
 use Rattle.maker.specs.declared.Made.{Made}
-use Rattle.maker.specs.Act.{numberOf as actNumber, countOf}
+use Rattle.maker.specs.Act.{refusalIn as actRefused, countOf}
 use Rattle.file.specs.declared.CardFile.{CardFile}
 use Rattle.file.specs.declared.Session.{Session}
 use Rattle.file.specs.declared.Session.the-variants as session
@@ -39,8 +39,8 @@ isHigh x = not (eqb x 0)
 
 -- An act: the count, 0 where refused, and the refusal, 0 if none.
 unfoldable pub madeOf : Made → ZhavMade
-unfolding countOf actNumber
-madeOf a = record { count = countOf a; refusal = actNumber a }
+unfolding countOf actRefused
+madeOf a = record { count = countOf a; refusal = actRefused a }
 
 -- A card file: the fuse byte.
 unfoldable pub cardFileOf : CardFile → ZhavCard

@@ -22,9 +22,9 @@ fn told(made: Made) -> ZhavMade
             count: count,
             refusal: 0,
         },
-        Made::Refused(number) => ZhavMade {
+        Made::Refused(refusal) => ZhavMade {
             count: 0,
-            refusal: number,
+            refusal: refusal,
         },
     }
 }

@@ -30,9 +30,9 @@ pub extern "C" fn zhav_open_card(file: &[u8], memory: &mut [u8]) -> ZhavCard
             fuses: fuses,
             refusal: 0,
         },
-        CardFile::Refused(number) => ZhavCard {
+        CardFile::Refused(refusal) => ZhavCard {
             fuses: 0,
-            refusal: number,
+            refusal: refusal,
         },
     }
 }
@@ -52,11 +52,11 @@ pub extern "C" fn zhav_open_session(file: &[u8], memory: &mut [u8]) -> ZhavSessi
             fuses: fuses,
             refusal: 0,
         },
-        Session::Refused(number) => ZhavSession {
+        Session::Refused(refusal) => ZhavSession {
             first: 0,
             steps: 0,
             fuses: 0,
-            refusal: number,
+            refusal: refusal,
         },
     }
 }

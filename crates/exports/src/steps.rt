@@ -157,12 +157,12 @@ pub extern "C" fn zhav_flags(v: Volatile) -> ZhavFlags
             e1: e1 as u8,
             refusal: 0,
         },
-        FlagsAnswer::Refused(number) => ZhavFlags {
+        FlagsAnswer::Refused(refusal) => ZhavFlags {
             sv: 0,
             p1: 0,
             r1: 0,
             e1: 0,
-            refusal: number,
+            refusal: refusal,
         },
     }
 }

@@ -2,7 +2,7 @@
 use mathlib.Core.Path.{refl}
 use Rattle.memory.specs.Image.{digit}
 use Rattle.rules.specs.Maker.{reset, walk, show, program, blow, open-card, walkRefusal, openRefusal}
-use Rattle.maker.specs.Act.{numberOf, countOf, made, inBuffer}
+use Rattle.maker.specs.Act.{refusalIn, countOf, made, inBuffer}
 use Rattle.maker.specs.Parts.{pulse, shownBit}
 use Rattle.maker.specs.Cases.{Acts-make, Answers-told, Parts-made}
 
@@ -25,7 +25,7 @@ acts-make = (
 )
 
 pub answers-told : Answers-told
-unfolding numberOf countOf
+unfolding refusalIn countOf
 answers-told = (refl, refl, refl, refl, refl)
 
 pub parts-made : Parts-made

@@ -9,10 +9,10 @@ use Rattle.rules.specs.Maker.{actRefusal}
 use Rattle.maker.specs.declared.Made.{Made}
 use Rattle.maker.specs.declared.Made.the-variants.{Wrote, Refused}
 
--- 01's number of an answer, 0 where it is none, and its count.
-unfoldable pub numberOf : Made → ℕ
-numberOf (Wrote n) = 0
-numberOf (Refused k) = k
+-- The refusal in an answer, 0 where it is none, and its count.
+unfoldable pub refusalIn : Made → ℕ
+refusalIn (Wrote n) = 0
+refusalIn (Refused k) = k
 
 unfoldable pub countOf : Made → ℕ
 countOf (Wrote n) = n
@@ -27,8 +27,8 @@ made refused steps room =
 
 -- "Nothing is then written, count 0; else bytes after the count stay."
 unfoldable pub inBuffer : Made → List ℕ → List ℕ → List ℕ
-unfolding numberOf countOf
-inBuffer r steps buffer = cond (eqb (numberOf r) 0) (steps ++ drop (countOf r) buffer) buffer
+unfolding refusalIn countOf
+inBuffer r steps buffer = cond (eqb (refusalIn r) 0) (steps ++ drop (countOf r) buffer) buffer
 
 -- An act's promise: the answer, and every byte of the buffer.
 pub record Acted (refused : ℕ) (steps buffer : List ℕ) (r : Made) (after : List ℕ) : Type 0 where

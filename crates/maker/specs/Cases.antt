@@ -10,7 +10,7 @@ use Rattle.rules.specs.Lines.{RST, mask}
 use Rattle.rules.specs.Maker.{reset, walk, program, blow, open-card, walkRefusal, openRefusal}
 use Rattle.rules.specs.CaseForms.{L1, L2, code}
 use Rattle.maker.specs.declared.Made.the-variants.{Wrote, Refused}
-use Rattle.maker.specs.Act.{numberOf, countOf, Acted}
+use Rattle.maker.specs.Act.{refusalIn, countOf, Acted}
 use Rattle.maker.specs.Parts.{pulse, shownBit, upToCode, useTry}
 
 abbrev pub Acts-make : Type 0
@@ -36,9 +36,9 @@ Acts-make =
 -- The number of an answer, 0 where it is none, and "count 0" where it is refused.
 abbrev pub Answers-told : Type 0
 Answers-told =
-    (numberOf (Wrote 6) ≡ 0) ×
-    (numberOf (Refused 21) ≡ 21) ×
-    (numberOf (Refused 22) ≡ 22) ×
+    (refusalIn (Wrote 6) ≡ 0) ×
+    (refusalIn (Refused 21) ≡ 21) ×
+    (refusalIn (Refused 22) ≡ 22) ×
     (countOf (Wrote 6) ≡ 6) ×
     (countOf (Refused 22) ≡ 0)
 
