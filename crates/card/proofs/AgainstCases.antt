@@ -3,7 +3,7 @@ use mathlib.Core.Path.{refl}
 use Rattle.rules.specs.Card.{refusalIn, pinIn}
 use Rattle.rules.specs.Computing.{the-card}
 use Rattle.rules.specs.CaseForms.{sample}
-use Rattle.volatile.specs.Packed.{unpacked, goneOn}
+use Rattle.volatile.specs.Packed.{packed, unpacked}
 use Rattle.card.specs.Contracts.{stepLeaves, stepAnswer, walkOf, runLeaves, runAnswers, runRefused, flagsOf, flagsRefused, flagsHeld}
 use Rattle.card.specs.Cases.{Steps-answer, Steps-told, Walks, Runs-answer, Flags-told}
 
@@ -36,8 +36,8 @@ steps-told = (
 )
 
 pub walks : Walks
-unfolding the-card sample walkOf goneOn unpacked
-walks = (refl, refl, refl, refl, refl)
+unfolding the-card sample walkOf packed unpacked
+walks = (refl, refl, refl, refl, refl, refl, refl, refl, refl, refl)
 
 pub runs-answer : Runs-answer
 unfolding the-card sample runLeaves runAnswers runRefused

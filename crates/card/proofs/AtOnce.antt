@@ -24,14 +24,23 @@ use Rattle.volatile.proofs.Sums.{ready}
 use Rattle.refusals.specs.Before.{givenRefusal}
 use Rattle.refusals.proofs.Laws.{none-refused}
 use Rattle.card.specs.declared.Walked.{Walked}
-use Rattle.card.specs.Contracts.{StepTold, calm, plainAt, walkedHalf, walks, walkTo, noWalk, walkOf}
-use Rattle.card.specs.Moves.{Ready, Steps, Shows, Calm}
+use Rattle.card.specs.Contracts.{StepTold, calm, plainAt, walkedTo, walks, walkTo, noWalk, walkOf}
+use Rattle.card.specs.Moves.{Ready, Steps, Shows, walkedHalf, Calm}
 use Rattle.rules.specs.Lines.{change}
 use Rattle.card.proofs.Turned.{Turned, small-step, by-difference, turned-by}
 use Rattle.card.proofs.ByLine.{Goes, turned, goes-to, clk-rises, clk-walks}
 use Rattle.card.proofs.Walks.{plain-clocked}
 use Rattle.card.proofs.Loop.{ready-at}
 use Rattle.card.proofs.Answers.{step-done}
+
+-- The address of the half after a walk.
+pub comes-there : (v : Volatile) (n : ℕ) → walkedHalf v n .address ≡ walkedTo (v .address) n
+unfolding walkedHalf walkedTo packed clkRises goneOn unpacked
+comes-there v n = go (digit 2 n)
+  where
+    go : (up : Bool) → cond up (clkRises n (unpacked v)) (goneOn n (v .address + 1) (unpacked v)) .address ≡ cond up (v .address) (v .address + 1)
+    go true = refl
+    go false = refl
 
 -- VCC on, RST and PGM low, and no bit that is no line.
 pub record Still (n : ℕ) : Type 0 where
@@ -172,18 +181,18 @@ module _ {g : Given} {n : ℕ} (c : Calm g n) where
       let plain = shows .plain ∙ lt-ltb r 2 less in
       rw (walk-goes plain .there, pin-by (digit 2 n) shows less)
 
-  pub told : plainAt (walkedHalf (g .half) n .address) ≡ true →
+  pub told : plainAt (walkedTo (g .half .address) n) ≡ true →
       StepTold g n
       (record { fuses = g .fuses; volatile = packed (next (cardOf g) n .volatile); pin = pin (next (cardOf g) n); refusal = 0 })
       (g .memory)
   told plain =
-      let goes = walk-goes plain in
+      let goes = walk-goes (ap plainAt (comes-there (g .half) n) ∙ plain) in
       let u = withVolatile (cardOf g) (after (digit 2 n)) in
       rw (goes .there) (step-done g n unrefused (goes-to is-ready n u (goes .none) (goes .there)))
 
 -- The tests, taken apart.
 module _ (g : Given) (n : ℕ) where
-  all-pass : n < 256 → walks g n ≡ true → Calm g n × (plainAt (walkedHalf (g .half) n .address) ≡ true)
+  all-pass : n < 256 → walks g n ≡ true → Calm g n × (plainAt (walkedTo (g .half .address) n) ≡ true)
   unfolding walks
   all-pass byte e =
       let a = and-right (eqb (bitAnd n 203) 1) _ e in
@@ -253,7 +262,7 @@ module _ (g : Given) (n : ℕ) where
 
   pub all-passed :
       Calm g n →
-      cond (plainAt (walkedHalf (g .half) n .address)) (walkTo (next (cardOf g) n)) (noWalk (g .half)) ≡ walkOf g n
+      cond (plainAt (walkedTo (g .half .address) n)) (walkTo (next (cardOf g) n)) (noWalk (g .half)) ≡ walkOf g n
   unfolding walkOf walks
   all-passed c =
       rw (

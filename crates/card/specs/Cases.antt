@@ -16,7 +16,7 @@ use Rattle.volatile.specs.Packed.{Given, given}
 use Rattle.volatile.specs.Cases.{Gives, half}
 use Rattle.card.specs.declared.Walked.{Walked}
 use Rattle.card.specs.declared.FlagsAnswer.the-variants.{Held, Refused as Barred}
-use Rattle.card.specs.Contracts.{StepAnswered, StepTold, noWalk, walkOf, RunAnswered, flagsOf, flagsRefused, flagsHeld}
+use Rattle.card.specs.Contracts.{StepAnswered, StepTold, plainAt, noWalk, walkOf, RunAnswered, flagsOf, flagsRefused, flagsHeld}
 
 -- Of the first card the step makes the second and gets this answer.
 abbrev pub StepsTo : Given → ℕ → Given → Answer → Type 0
@@ -82,9 +82,32 @@ Walks =
     (half 21 0 8, noWalk (half 21 0 8)) ∷
     (half 17 0 16, noWalk (half 17 0 16)) ∷
     []) ×
-    -- RST high, PGM high, VCC off, two lines, no line, a byte over 63.
+    -- CLK with RST high, with PGM high, with VCC off, with a bit that is no line; other lines, no line.
+    (walkOf (given sample 5 (half 19 0 0)) 23 ≡ noWalk (half 19 0 0)) ×
+    (walkOf (given sample 5 (half 25 0 0)) 29 ≡ noWalk (half 25 0 0)) ×
+    (walkOf (given sample 5 (half 16 0 0)) 20 ≡ noWalk (half 16 0 0)) ×
+    (walkOf (given sample 5 (half 81 0 0)) 85 ≡ noWalk (half 81 0 0)) ×
     Gives (walkOf (given sample 5 (half 17 0 0)))
-    ((19, noWalk (half 17 0 0)) ∷ (25, noWalk (half 17 0 0)) ∷ (16, noWalk (half 17 0 0)) ∷ (5, noWalk (half 17 0 0)) ∷ (17, noWalk (half 17 0 0)) ∷ (85, noWalk (half 17 0 0)) ∷ []) ×
+    ((19, noWalk (half 17 0 0)) ∷ (1, noWalk (half 17 0 0)) ∷ (5, noWalk (half 17 0 0)) ∷ (17, noWalk (half 17 0 0)) ∷ []) ×
+    Gives plainAt
+    ((79, true) ∷
+    (80, false) ∷
+    (104, false) ∷
+    (105, true) ∷
+    (175, true) ∷
+    (176, false) ∷
+    (177, false) ∷
+    (178, true) ∷
+    (1198, true) ∷
+    (1199, false) ∷
+    (1232, false) ∷
+    (1233, true) ∷
+    (1359, true) ∷
+    (1360, false) ∷
+    (1361, true) ∷
+    (1519, true) ∷
+    (1520, false) ∷
+    []) ×
     (walkOf (given sample 8 (half 17 0 0)) 21 ≡ noWalk (half 17 0 0)) ×
     (walkOf (given (take 173 sample) 5 (half 17 0 0)) 21 ≡ noWalk (half 17 0 0))
 

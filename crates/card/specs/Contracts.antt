@@ -11,10 +11,10 @@ use Rattle.rules.specs.declared.Answer.{Answer}
 use Rattle.rules.specs.declared.Answer.the-variants.{Refused}
 use Rattle.rules.specs.Halves.{Card}
 use Rattle.rules.specs.Zones.{between}
-use Rattle.rules.specs.Steps.{clkRises, next, pin}
+use Rattle.rules.specs.Steps.{next, pin}
 use Rattle.rules.specs.Card.{refusalIn, pinIn, stepped, answered, run, answersIn}
 use Rattle.volatile.specs.declared.Volatile.{Volatile}
-use Rattle.volatile.specs.Packed.{packed, unpacked, Given, given, cardOf, handedBack, madeUpWord, goneOn}
+use Rattle.volatile.specs.Packed.{packed, unpacked, Given, given, cardOf, handedBack, madeUpWord}
 use Rattle.refusals.specs.Before.{givenRefusal, givenRunRefusal}
 use Rattle.card.specs.declared.Stepped.{Stepped}
 use Rattle.card.specs.declared.Told.{Told}
@@ -68,18 +68,17 @@ calm v n = eqb (bitXor (v .lines) n) 4 && (eqb (v .flags / 8) 0 || eqb (v .flags
 unfoldable pub plainAt : ℕ → Bool
 plainAt a = ltb a 80 || (between 105 175 a || (between 178 1198 a || (between 1233 1359 a || between 1361 1519 a)))
 
--- The half after CLK's rise or fall there.
-unfoldable pub walkedHalf : Volatile → ℕ → Volatile
-unfolding packed
-walkedHalf v n = packed (cond (digit 2 n) (clkRises n (unpacked v)) (goneOn n (v .address + 1) (unpacked v)))
+-- The address after CLK's rise or fall.
+unfoldable pub walkedTo : ℕ → ℕ → ℕ
+walkedTo a n = cond (digit 2 n) a (a + 1)
 
 unfoldable pub walks : Given → ℕ → Bool
-unfolding calm plainAt walkedHalf
+unfolding calm plainAt walkedTo
 walks g n =
     eqb (bitAnd n 203) 1 &&
     (calm (g .half) n &&
     (ltb (g .half .address) 1519 &&
-    (eqb (length (g .memory)) bytes && (leb (g .fuses) 7 && plainAt (walkedHalf (g .half) n .address)))))
+    (eqb (length (g .memory)) bytes && (leb (g .fuses) 7 && plainAt (walkedTo (g .half .address) n)))))
 
 -- The half and the pin of such a step; of any other the half as it came, and 255.
 abbrev pub walkTo : Card → Walked

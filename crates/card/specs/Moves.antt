@@ -1,7 +1,7 @@
 -- One step inside the card: what the private functions of the loop take for granted and what they hand on.
-use Prim.Native.Nat.{ℕ, _≤_, _<_}
+use Prim.Native.Nat.{ℕ, _+_, _≤_, _<_}
 use mathlib.Core.Path.{_≡_}
-use mathlib.Core.Bool.{true, false}
+use mathlib.Core.Bool.{true, false, cond}
 use mathlib.Core.List.{List}
 use lib.Dec.{eqb, ltb}
 use lib.Bits.{bitAnd}
@@ -14,9 +14,9 @@ use Rattle.rules.specs.Zones.{zone}
 use Rattle.rules.specs.Rights.{held, mayRead}
 use Rattle.rules.specs.Programming.{operationNow, fusesAfter, turns}
 use Rattle.rules.specs.Refusals.{refusal}
-use Rattle.rules.specs.Steps.{programmed, next, driven, pinValue, pin}
+use Rattle.rules.specs.Steps.{clkRises, programmed, next, driven, pinValue, pin}
 use Rattle.volatile.specs.declared.Volatile.{Volatile}
-use Rattle.volatile.specs.Packed.{packed, unpacked, Given, given, cardOf, handedBack, withHalf, madeUpWord}
+use Rattle.volatile.specs.Packed.{packed, unpacked, Given, given, cardOf, handedBack, withHalf, madeUpWord, goneOn}
 use Rattle.card.specs.Contracts.{calm, plainAt}
 use Rattle.card.specs.declared.moved.Moved.{Moved}
 use Rattle.card.specs.declared.moved.Left.{Left}
@@ -73,6 +73,11 @@ pub record Shows (a flags r : ℕ) : Type 0 where
   pub small : r ≤ 2
   pub read :
       r < 2 → (fuses : ℕ) (v : Halves.Volatile) → v .sv ≡ digit 0 flags → v .r1 ≡ digit 2 flags → mayRead (held fuses v) (zone a) ≡ eqb r 1
+
+-- The half after CLK's rise or fall on a walk.
+unfoldable pub walkedHalf : Volatile → ℕ → Volatile
+unfolding packed
+walkedHalf v n = packed (cond (digit 2 n) (clkRises n (unpacked v)) (goneOn n (v .address + 1) (unpacked v)))
 
 -- A card and a step that walk, if the address is one at which a walk can be.
 pub record Calm (g : Given) (n : ℕ) : Type 0 where

@@ -8,8 +8,8 @@ ghost use mathlib.Core.Bool.{cond};
 ghost use Prim.Native.Nat.{_<_};
 ghost use Rattle.rules.specs.Steps.{next};
 ghost use Rattle.volatile.specs.Packed.{given, cardOf};
-ghost use Rattle.card.specs.Contracts.{calm, plainAt, walkedHalf, walkTo, noWalk};
-ghost use Rattle.card.specs.Moves.{Shows, Calm};
+ghost use Rattle.card.specs.Contracts.{calm, plainAt, walkedTo, walkTo, noWalk};
+ghost use Rattle.card.specs.Moves.{Shows, walkedHalf, Calm};
 
 // What the pin shows: nothing, or the bit.
 pub(crate) const NOTHING: u8 = 0;
@@ -91,7 +91,7 @@ pub(crate) fn clocks(v: Volatile, n: u32) -> Volatile
 // The half after a walk, and the pin, or no walk after all.
 pub(crate) fn comes_to(v: Volatile, image: &[u8], fuses: u8, n: u32) -> Walked
     requires { ⌜ Calm (given (now image) fuses v) n ⌝ }
-    ensures { λ r. ⌜ r ≡ cond (plainAt (walkedHalf v n .address)) (walkTo (next (cardOf (given (now (image .entry)) fuses v)) n)) (noWalk v) ⌝ }
+    ensures { λ r. ⌜ r ≡ cond (plainAt (walkedTo (v .address) n)) (walkTo (next (cardOf (given (now (image .entry)) fuses v)) n)) (noWalk v) ⌝ }
 {
     let next = clocks(v, n);
     let shown = shows(next.address, next.flags);

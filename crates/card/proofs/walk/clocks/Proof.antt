@@ -1,6 +1,6 @@
 use mathlib.Core.Path.{sym, _∙_}
 use Rattle.volatile.specs.Packed.{goneOn}
-use Rattle.card.specs.Contracts.{walkedHalf}
+use Rattle.card.specs.Moves.{walkedHalf}
 use borrow.Author.Needs.{needs}
 use Rattle.card.proofs.walk.clocks.Statement.{statement}
 use Rattle.card.proofs.walk.clocks.Tie as tie

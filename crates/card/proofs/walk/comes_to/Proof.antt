@@ -1,8 +1,8 @@
 use Prim.Native.Nat.{_<_}
 use native.Mathlib.Omega.{arith}
-use mathlib.Core.Path.{sym, _∙_}
-use borrow.Author.Tests.{eq-eqb, lt-ltb}
-use Rattle.card.proofs.AtOnce.{walked}
+use mathlib.Core.Path.{sym}
+use borrow.Author.Tests.{lt-ltb}
+use Rattle.card.proofs.AtOnce.{comes-there, walked}
 use borrow.Author.Needs.{needs}
 use Rattle.card.proofs.walk.comes_to.Statement.{statement}
 use Rattle.card.proofs.walk.comes_to.Tie as tie
@@ -10,16 +10,25 @@ use Rattle.card.proofs.walk.comes_to.Tie as tie
 returns : tie.Need-returns
 returns c =
     let asked = c .before in
-    rw (c .none .ensures, ← asked .before .before .clocks .ensures, asked .before .shows .ensures .plain, asked .if1 .taken)
+    let clocks = asked .before .before in
+    let start = clocks .before .before in
+    rw (
+      c .none .ensures,
+      ← comes-there (start .args .v) (start .args .n),
+      ← clocks .clocks .ensures,
+      asked .before .shows .ensures .plain,
+      asked .if1 .taken,
+    )
 
 returns-2 : tie.Need-returns-2
 returns-2 c =
     let asked = c .before .before .before in
+    let start = asked .before .before .before .before in
     let moved = asked .before .before .clocks .ensures in
     let shows = rw moved at (asked .before .shows .ensures) in
     let less : asked .before .shows .result < 2 = omega (arith, shows .small, asked .if1 .left) in
-    rw (c .pin-value .ensures, c .before .read-bit .ensures, moved, shows .plain, lt-ltb _ 2 less)
-    (sym (walked (asked .before .before .before .before .pre) shows less))
+    rw (c .pin-value .ensures, c .before .read-bit .ensures, moved, ← comes-there (start .args .v) (start .args .n), shows .plain, lt-ltb _ 2 less)
+    (sym (walked (start .pre) shows less))
 
 pub comes-to-spec : {M : Type 1} → statement M
 comes-to-spec =
