@@ -37,7 +37,7 @@ steps-told = (
 
 pub walks : Walks
 unfolding the-card sample walkOf packed unpacked
-walks = (refl, refl, refl, refl, refl, refl, refl, refl, refl, refl)
+walks = (refl, refl, refl, refl, refl, refl, refl, refl, refl, refl, refl)
 
 pub runs-answer : Runs-answer
 unfolding the-card sample runLeaves runAnswers runRefused

@@ -63,9 +63,16 @@ Steps-told =
 -- A walk: CLK's rise and fall where the pin shows a bit and where it shows nothing; no other step is one.
 abbrev pub Walks : Type 0
 Walks =
-    Gives (λ v. walkOf (given sample 5 v) 21) ((half 17 0 0, walk (half 21 0 16) zero) ∷ (half 17 1 5, walk (half 21 1 21) one) ∷ []) ×
+    Gives (λ v. walkOf (given sample 5 v) 21)
+    ((half 17 0 0, walk (half 21 0 16) zero) ∷
+    (half 17 1 5, walk (half 21 1 21) one) ∷
+    (half 17 79 0, walk (half 21 79 16) one) ∷
+    (half 17 104 0, noWalk (half 17 104 0)) ∷
+    (half 17 1519 0, noWalk (half 17 1519 0)) ∷
+    []) ×
     Gives (λ v. walkOf (given sample 5 v) 17)
     ((half 21 0 16, walk (half 17 1 0) one) ∷
+    (half 21 0 7, walk (half 17 1 7) one) ∷
     (half 21 1198 0, noWalk (half 21 1198 0)) ∷
     (half 21 500 16, walk (half 17 501 0) released) ∷
     (half 21 500 17, walk (half 17 501 1) one) ∷
@@ -108,6 +115,7 @@ Walks =
     (1519, true) ∷
     (1520, false) ∷
     []) ×
+    (walkOf (given sample 7 (half 17 0 0)) 21 ≡ walk (half 21 0 16) zero) ×
     (walkOf (given sample 8 (half 17 0 0)) 21 ≡ noWalk (half 17 0 0)) ×
     (walkOf (given (take 173 sample) 5 (half 17 0 0)) 21 ≡ noWalk (half 17 0 0))
 
