@@ -36,12 +36,12 @@ pub record RunTold (g : Given) (steps answers : List ℕ) (r : ZhavRan) (after t
   pub refusal : r .refusal ≡ runRefused g steps (length answers)
   pub pins : told ≡ answersIn (runAnswers g steps (length answers)) answers
 
--- An act: the buffer.
+-- An act: its numbers and the buffer.
 pub record ActTold (refused : ℕ) (steps buffer : List ℕ) (r : ZhavMade) (after : List ℕ) : Type 0 where
   pub answer : r ≡ madeOf (made refused steps (length buffer))
   pub bytes : after ≡ inBuffer (made refused steps (length buffer)) steps buffer
 
--- The openers: the memory buffer. A session's numbers give the step section as that part of the file, the empty part if refused.
+-- The openers: their numbers and the memory buffer. A session's numbers give the step section as that part of the file, the empty part if refused.
 pub record CardTold (file memory : List ℕ) (r : ZhavCard) (after : List ℕ) : Type 0 where
   pub answer : r ≡ cardFileOf (cardAnswer file (length memory))
   pub bytes : after ≡ inMemory (cardNumber (cardAnswer file (length memory))) file memory

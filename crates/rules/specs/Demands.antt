@@ -1,6 +1,7 @@
--- The user's demands as statements about the definitions that the contracts of step, run and maker cite. The module `proofs.Demands`
--- proves each under its own name. Of demand 1, "answers and ends", and of demand 2 the first sentence are the contracts of step and run
--- themselves (`StepAnswered`, `RunAnswered` of the crate card), which hold for every input.
+-- The user's demands as statements about the definitions of a checked step, a checked run and the maker's lists, each proved under its own
+-- name. Of demand 1, that every call gets an answer and an end, and of demand 2 the first sentence are the contracts of step and run
+-- themselves (`StepAnswered`, `RunAnswered` of the crate card), which hold for every input; that they give what the checked step and run give
+-- is proved there too (`AsDefined`).
 use Prim.Native.Nat.{ℕ, zero, suc, _+_, _*_, _<_, _≤_}
 use mathlib.Core.Path.{_≡_}
 use mathlib.Core.Bool.{Bool, true, false, cond, _||_}
@@ -151,11 +152,11 @@ unfoldable pub answers : Card → List ℕ → List Answer
 answers c [] = []
 answers c (n ∷ ns) = checkedAnswer c n ∷ answers (checkedStep c n) ns
 
--- The card has not opened by the end of any part of the list: the list is one before the step at which it opens.
+-- The card has not opened by the end of any first part of the list: the list is one before the step at which it opens.
 unfoldable pub Unopened : Card → List ℕ → Type 0
 Unopened c ns = (k : ℕ) → after c (take k ns) .volatile .sv ≡ false
 
--- The three zones hold every bit that they held in the first card.
+-- The three zones of the second card hold every bit that they hold in the first.
 abbrev pub ZonesKept : Card → Card → Type 0
 ZonesKept c d = (a : ℕ) → hidden a ≡ true → bit (d .memory) a ≡ bit (c .memory) a
 
@@ -168,7 +169,7 @@ abbrev pub Hidden-before-opening : Type 0
 Hidden-before-opening =
     (c c′ : Card) (ns : List ℕ) → Alike c c′ → Unopened c ns → Unopened c′ ns → Indistinguishable c c′ ns
 
--- The same of a run, as its contract gives it.
+-- The same of a checked run.
 unfoldable pub UnopenedRun : Card → List ℕ → ℕ → Type 0
 UnopenedRun c ns room = (k : ℕ) → checkedRun c (take k ns) room .card .volatile .sv ≡ false
 

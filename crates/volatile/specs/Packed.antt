@@ -108,7 +108,7 @@ programmedHalf l1 ec-en turned n v =
 unfoldable pub comparedHere : List ℕ → Bool → Halves.Volatile → Bool
 comparedHere m l1 v = compared l1 (v .sv) (v .latch) (bit m (v .address)) (v .address) (v .matched)
 
--- The volatile half where the address has gone on to a, and nothing else changed.
+-- The volatile half after CLK's fall where the address has gone on to a: the latch and programming are cleared, all else stays.
 unfoldable pub goneOn : ℕ → ℕ → Halves.Volatile → Halves.Volatile
 goneOn n a v =
     record {
