@@ -15,14 +15,13 @@ use Rattle.rules.specs.Steps.{next, pin}
 use Rattle.rules.specs.Card.{refusalIn, pinIn, Ran, added, ended, run, stepped, answered, answersIn}
 use Rattle.volatile.specs.Packed.{unpacked, Given, cardOf, handedBack}
 use Rattle.refusals.specs.Before.{givenRefusal, givenRunRefusal}
-use Rattle.card.specs.declared.Ran as Declared
 use Rattle.card.specs.Moves.{Steps}
 use Rattle.card.specs.Contracts.{stepLeaves, stepAnswer, StepTold, StepAnswered, runLeaves, runAnswers, runRefused, RunAnswered}
 use Rattle.card.specs.declared.Told.{Told}
 
 pub run-barred :
     (g : Given) (steps answers : List ℕ) (k : ℕ) → givenRunRefusal g (length steps) (length answers) ≡ k → (k ≡ 0 → ⊥) →
-    RunAnswered g steps answers (record { fuses = g .fuses; volatile = g .half; done = 0; refusal = k }) (g .memory) answers
+    RunAnswered g steps answers g 0 k answers
 unfolding runLeaves runAnswers runRefused answersIn
 run-barred g steps answers k e h =
     let no = ne-eqb k 0 h in
@@ -37,7 +36,7 @@ refused-as (Refused j) h = refl
 module _ (g : Given) (n : ℕ) where
   pub step-barred :
       (k : ℕ) → givenRefusal g ≡ k → (k ≡ 0 → ⊥) →
-      StepTold g n (record { fuses = g .fuses; volatile = g .half; pin = 1; refusal = k }) (g .memory)
+      StepTold g n g 1 k
   unfolding stepLeaves stepAnswer pinIn refusalIn
   step-barred k e h =
       let no = ne-eqb k 0 h in
@@ -46,7 +45,7 @@ module _ (g : Given) (n : ℕ) where
   -- A step of a sound card that is accepted.
   pub step-done :
       {p shown : ℕ} {left : Given} → givenRefusal g ≡ 0 → Steps g p n left shown 0 →
-      StepTold g n (record { fuses = left .fuses; volatile = left .half; pin = shown; refusal = 0 }) (left .memory)
+      StepTold g n left shown 0
   unfolding stepLeaves stepAnswer stepped answered pinIn refusalIn
   step-done z did =
       let none = sym (did .refused) in
@@ -69,14 +68,14 @@ module _ (g : Given) (n : ℕ) where
   fits z = rw z
 
   pub step-of-run :
-      {r : Declared.Ran} {after told : List ℕ} → givenRefusal g ≡ 0 → RunAnswered g (n ∷ []) (1 ∷ []) r after told →
-      StepTold g n (record { fuses = r .fuses; volatile = r .volatile; pin = getD told 0 0; refusal = r .refusal }) after
+      {left : Given} {done j : ℕ} {told : List ℕ} → givenRefusal g ≡ 0 → RunAnswered g (n ∷ []) (1 ∷ []) left done j told →
+      StepTold g n left (getD told 0 0) j
   unfolding stepLeaves stepAnswer stepped answered pinIn refusalIn runLeaves runAnswers runRefused answersIn
-  step-of-run {r} {after} {told} z ran = go (eqb k 0) refl
+  step-of-run {left} {done} {j} {told} z ran = go (eqb k 0) refl
     where
       go :
           (t : Bool) → eqb k 0 ≡ t →
-          StepTold g n (record { fuses = r .fuses; volatile = r .volatile; pin = getD told 0 0; refusal = r .refusal }) after
+          StepTold g n left (getD told 0 0) j
       go true e =
           record {
             card = ran .card ∙ rw (fits z, z, one-run true e, e);

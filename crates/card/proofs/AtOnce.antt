@@ -182,9 +182,7 @@ module _ {g : Given} {n : ℕ} (c : Calm g n) where
       rw (walk-goes plain .there, pin-by (digit 2 n) shows less)
 
   pub told : plainAt (walkedTo (g .half .address) n) ≡ true →
-      StepTold g n
-      (record { fuses = g .fuses; volatile = packed (next (cardOf g) n .volatile); pin = pin (next (cardOf g) n); refusal = 0 })
-      (g .memory)
+      StepTold g n (withHalf g (packed (next (cardOf g) n .volatile))) (pin (next (cardOf g) n)) 0
   told plain =
       let goes = walk-goes (ap plainAt (comes-there (g .half) n) ∙ plain) in
       let u = withVolatile (cardOf g) (after (digit 2 n)) in
@@ -213,13 +211,11 @@ module _ (g : Given) (n : ℕ) where
   -- A walk's half and pin are the step's.
   pub walk-told :
       {w : Walked} → n < 256 → w ≡ walkOf g n → (w .pin ≡ 255 → ⊥) →
-      StepTold g n (record { fuses = g .fuses; volatile = w .volatile; pin = w .pin; refusal = 0 }) (g .memory)
+      StepTold g n (withHalf g (w .volatile)) (w .pin) 0
   unfolding walkOf
   walk-told {w} byte is other = go (walks g n) refl
     where
-      go :
-          (b : Bool) → walks g n ≡ b →
-          StepTold g n (record { fuses = g .fuses; volatile = w .volatile; pin = w .pin; refusal = 0 }) (g .memory)
+      go : (b : Bool) → walks g n ≡ b → StepTold g n (withHalf g (w .volatile)) (w .pin) 0
       go true e = let p = all-pass byte e in rw (is, e) (told (p .0) (p .1))
       go false e = let same : w ≡ noWalk (g .half) = is ∙ rw e in absurd (other (ap (λ (x : Walked). x .pin) same))
 

@@ -136,7 +136,7 @@ module _ {start g : Given} {steps answers₀ answers : List ℕ} {p i : ℕ} (go
   -- The run is over where the run of what is left is.
   concludes :
       (k : ℕ) → run (cardOf g) (drop i steps) ≡ ended (cardOf g) k →
-      RunAnswered start steps answers₀ (record { fuses = g .fuses; volatile = g .half; done = i; refusal = k }) (g .memory) answers
+      RunAnswered start steps answers₀ g i k answers
   unfolding runLeaves runAnswers runRefused answersIn
   concludes k e =
       record {
@@ -154,14 +154,14 @@ module _ {start g : Given} {steps answers₀ answers : List ℕ} {p i : ℕ} (go
 
   pub ends :
       length steps ≤ i →
-      RunAnswered start steps answers₀ (record { fuses = g .fuses; volatile = g .half; done = i; refusal = 0 }) (g .memory) answers
+      RunAnswered start steps answers₀ g i 0 answers
   unfolding run
   ends h = concludes 0 (rw (drop-of-length-le steps h))
 
   module _ {left : Given} {shown k : ℕ} (h : i < length steps) (steps-to : Steps g p (getD steps i 0) left shown k) where
     pub stops :
         (k ≡ 0 → ⊥) →
-        RunAnswered start steps answers₀ (record { fuses = g .fuses; volatile = g .half; done = i; refusal = k }) (left .memory) answers
+        RunAnswered start steps answers₀ (given (left .memory) (g .fuses) (g .half)) i k answers
     unfolding run
     stops z = rw (steps-to .kept z .0) (concludes k (rw (drop-cons steps i 0 h, ← steps-to .refused, ne-eqb k 0 z)))
 

@@ -61,9 +61,7 @@ module _ (v : Volatile) (n : ℕ) where
   -- What a single step answers.
   pub quick-told :
       (m : List ℕ) (fuses : ℕ) (after : Volatile) → givenRefusal (given m fuses v) ≡ 0 → QuickTo v n (To after) →
-      StepTold (given m fuses v) n
-      (record { fuses = fuses; volatile = after; pin = pinValue (driven fuses (unpacked after)) (bit m (after .address)); refusal = 0 })
-      m
+      StepTold (given m fuses v) n (given m fuses after) (pinValue (driven fuses (unpacked after)) (bit m (after .address))) 0
   unfolding QuickTo
   quick-told m fuses after z to =
       let p = pin (cardOf (given m fuses v)) in

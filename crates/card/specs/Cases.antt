@@ -20,7 +20,7 @@ use Rattle.card.specs.Contracts.{StepAnswered, StepTold, plainAt, noWalk
 
 -- Of the first card the step makes the second and gets this answer.
 abbrev pub StepsTo : Given → ℕ → Given → Answer → Type 0
-StepsTo c n d x = StepAnswered c n (record { fuses = d .fuses; volatile = d .half; answer = x }) (d .memory)
+StepsTo c n d x = StepAnswered c n d x
 
 -- A half and a pin.
 abbrev pub walk : Volatile → ℕ → Walked
@@ -55,10 +55,10 @@ Steps-answer =
 -- A step in plain numbers: 1 stands in the answer's place beside a refusal.
 abbrev pub Steps-told : Type 0
 Steps-told =
-    StepTold (given sample 5 (half 17 0 0)) 21 (record { fuses = 5; volatile = half 21 0 16; pin = zero; refusal = 0 }) sample ×
-    StepTold (given sample 7 (half 23 1504 9)) 19 (record { fuses = 3; volatile = half 19 1504 1; pin = released; refusal = 0 }) sample ×
-    StepTold (given sample 5 (half 17 0 7)) 22 (record { fuses = 5; volatile = half 17 0 7; pin = no-answer; refusal = 2 }) sample ×
-    StepTold (given sample 5 (half 21 96 200)) 17 (record { fuses = 5; volatile = half 21 96 200; pin = no-answer; refusal = 9 }) sample
+    StepTold (given sample 5 (half 17 0 0)) 21 (given sample 5 (half 21 0 16)) zero 0 ×
+    StepTold (given sample 7 (half 23 1504 9)) 19 (given sample 3 (half 19 1504 1)) released 0 ×
+    StepTold (given sample 5 (half 17 0 7)) 22 (given sample 5 (half 17 0 7)) no-answer 2 ×
+    StepTold (given sample 5 (half 21 96 200)) 17 (given sample 5 (half 21 96 200)) no-answer 9
 
 -- A walk: CLK's rise and fall where the pin shows a bit and where it shows nothing; no other step is one.
 abbrev pub Walks : Type 0
@@ -123,7 +123,7 @@ Walks =
 -- bytes afterwards.
 abbrev pub RunsTo : Given → List ℕ → List ℕ → Given → ℕ → ℕ → List ℕ → Type 0
 RunsTo c steps answers d done k told =
-    RunAnswered c steps answers (record { fuses = d .fuses; volatile = d .half; done = done; refusal = k }) (d .memory) told
+    RunAnswered c steps answers d done k told
 
 -- "a run refused by 9 or over has count 0", and nothing is changed.
 abbrev pub RunRefused : Given → List ℕ → List ℕ → ℕ → Type 0

@@ -48,15 +48,15 @@ runRefused g steps room =
     cond (eqb k 0) (run (cardOf g) steps .refused) k
 
 -- A step of whatever comes in.
-pub record StepAnswered (g : Given) (n : ℕ) (r : Stepped) (after : List ℕ) : Type 0 where
-  pub card : given after (r .fuses) (r .volatile) ≡ stepLeaves g n
-  pub answer : r .answer ≡ stepAnswer g n
+pub record StepAnswered (g : Given) (n : ℕ) (left : Given) (told : Answer) : Type 0 where
+  pub card : left ≡ stepLeaves g n
+  pub answer : told ≡ stepAnswer g n
 
 -- The same in plain numbers.
-pub record StepTold (g : Given) (n : ℕ) (r : Told) (after : List ℕ) : Type 0 where
-  pub card : given after (r .fuses) (r .volatile) ≡ stepLeaves g n
-  pub pin : r .pin ≡ pinIn (stepAnswer g n)
-  pub refusal : r .refusal ≡ refusalIn (stepAnswer g n)
+pub record StepTold (g : Given) (n : ℕ) (left : Given) (shown k : ℕ) : Type 0 where
+  pub card : left ≡ stepLeaves g n
+  pub pin : shown ≡ pinIn (stepAnswer g n)
+  pub refusal : k ≡ refusalIn (stepAnswer g n)
 
 -- CLK alone differs, and of the flags above R1 none is set, or the latch alone and CLK high.
 unfoldable pub calm : Volatile → ℕ → Bool
@@ -94,10 +94,10 @@ unfolding walks
 walkOf g n = cond (walks g n) (walkTo (next (cardOf g) n)) (noWalk (g .half))
 
 -- A run of whatever comes in.
-pub record RunAnswered (g : Given) (steps answers : List ℕ) (r : Ran) (after told : List ℕ) : Type 0 where
-  pub card : given after (r .fuses) (r .volatile) ≡ runLeaves g steps (length answers)
-  pub done : r .done ≡ length (runAnswers g steps (length answers))
-  pub refusal : r .refusal ≡ runRefused g steps (length answers)
+pub record RunAnswered (g : Given) (steps answers : List ℕ) (left : Given) (count k : ℕ) (told : List ℕ) : Type 0 where
+  pub card : left ≡ runLeaves g steps (length answers)
+  pub done : count ≡ length (runAnswers g steps (length answers))
+  pub refusal : k ≡ runRefused g steps (length answers)
   pub pins : told ≡ answersIn (runAnswers g steps (length answers)) answers
 
 -- "A separate call reads flags, refusing by 9".

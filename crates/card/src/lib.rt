@@ -64,7 +64,7 @@ pub struct Walked {
 // The steps of a sound card, up to the first that is refused.
 fn drive(image: &mut [u8], fuses: u8, v: Volatile, steps: &[u8], answers: &mut [u8]) -> Ran
     requires { ⌜ givenRunRefusal (given (now image) fuses v) (length (now steps)) (length (now answers)) ≡ 0 ⌝ }
-    ensures { λ r. ⌜ RunAnswered (given (now (image .entry)) fuses v) (now (steps .entry)) (now (answers .entry)) r (now (image .exit)) (now (answers .exit)) ⌝ }
+    ensures { λ r. ⌜ RunAnswered (given (now (image .entry)) fuses v) (now (steps .entry)) (now (answers .entry)) (given (now (image .exit)) (r .fuses) (r .volatile)) (r .done) (r .refusal) (now (answers .exit)) ⌝ }
 {
     let mut f = fuses;
     let mut s = v;
@@ -96,7 +96,7 @@ fn drive(image: &mut [u8], fuses: u8, v: Volatile, steps: &[u8], answers: &mut [
 
 // A run over a list of steps, with one answer byte for each that is accepted.
 pub fn run(image: &mut [u8], fuses: u8, v: Volatile, steps: &[u8], answers: &mut [u8]) -> Ran
-    ensures { λ r. ⌜ RunAnswered (given (now (image .entry)) fuses v) (now (steps .entry)) (now (answers .entry)) r (now (image .exit)) (now (answers .exit)) ⌝ }
+    ensures { λ r. ⌜ RunAnswered (given (now (image .entry)) fuses v) (now (steps .entry)) (now (answers .entry)) (given (now (image .exit)) (r .fuses) (r .volatile)) (r .done) (r .refusal) (now (answers .exit)) ⌝ }
 {
     let refusal = refusals::run_refusal(image, fuses, v, steps.len(), answers.len());
     if refusal != 0 {
@@ -113,7 +113,7 @@ pub fn run(image: &mut [u8], fuses: u8, v: Volatile, steps: &[u8], answers: &mut
 // One step of a sound card, as a run of one.
 fn step_by_run(image: &mut [u8], fuses: u8, v: Volatile, n: u8) -> Told
     requires { ⌜ givenRefusal (given (now image) fuses v) ≡ 0 ⌝ }
-    ensures { λ r. ⌜ StepTold (given (now (image .entry)) fuses v) n r (now (image .exit)) ⌝ }
+    ensures { λ r. ⌜ StepTold (given (now (image .entry)) fuses v) n (given (now (image .exit)) (r .fuses) (r .volatile)) (r .pin) (r .refusal) ⌝ }
 {
     let one = [n];
     let mut told = [1u8];
@@ -152,7 +152,7 @@ pub fn walk_step(image: &[u8], fuses: u8, v: Volatile, n: u8) -> Walked
 
 // One step, its answer in plain numbers.
 pub fn step_told(image: &mut [u8], fuses: u8, v: Volatile, n: u8) -> Told
-    ensures { λ r. ⌜ StepTold (given (now (image .entry)) fuses v) n r (now (image .exit)) ⌝ }
+    ensures { λ r. ⌜ StepTold (given (now (image .entry)) fuses v) n (given (now (image .exit)) (r .fuses) (r .volatile)) (r .pin) (r .refusal) ⌝ }
 {
     let refusal = refusals::quick_state_refusal(image, fuses, v);
     if refusal != 0 {
@@ -176,7 +176,7 @@ pub fn step_told(image: &mut [u8], fuses: u8, v: Volatile, n: u8) -> Told
 
 // One step.
 pub fn step(image: &mut [u8], fuses: u8, v: Volatile, n: u8) -> Stepped
-    ensures { λ r. ⌜ StepAnswered (given (now (image .entry)) fuses v) n r (now (image .exit)) ⌝ }
+    ensures { λ r. ⌜ StepAnswered (given (now (image .entry)) fuses v) n (given (now (image .exit)) (r .fuses) (r .volatile)) (r .answer) ⌝ }
 {
     let told = step_told(image, fuses, v, n);
     let after = told.volatile;
