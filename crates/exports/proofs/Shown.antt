@@ -6,9 +6,7 @@ use mathlib.Core.List.{List, []}
 use lib.Dec.{eqb}
 use lib.ListN.{length, take, drop}
 use mir.Val.{boolByte}
-use Rattle.volatile.specs.Packed.{one, Given}
-use Rattle.card.specs.Contracts as Contracts
-use Rattle.card.specs.declared.Told.{Told}
+use Rattle.volatile.specs.Packed.{one}
 use Rattle.maker.specs.declared.Made.{Made}
 use Rattle.maker.specs.Act.{inBuffer, Acted}
 use Rattle.rules.specs.File.{fuseSection, stepCount, stepSection, sessionRefusal}
@@ -19,12 +17,8 @@ use Rattle.file.specs.Opening.{cardNumber, sessionNumber, sessionSteps, session
 use Rattle.exports.specs.declared.acts.ZhavMade.{ZhavMade}
 use Rattle.exports.specs.declared.openers.ZhavCard.{ZhavCard}
 use Rattle.exports.specs.declared.openers.ZhavSession.{ZhavSession}
-use Rattle.exports.specs.Rendered.{ofStep, madeOf, cardFileOf, stepsFrom, sessionOf}
-use Rattle.exports.specs.Told.{StepTold, ActTold, CardTold, SessionTold}
-
--- A step's promise, in these numbers.
-pub as-told : {g : Given} {n : ℕ} {s : Told} {after : List ℕ} → Contracts.StepTold g n s after → StepTold g n (ofStep s) after
-as-told told = record { card = told .card; answer = told .pin; refusal = told .refusal }
+use Rattle.exports.specs.Rendered.{madeOf, cardFileOf, stepsFrom, sessionOf}
+use Rattle.exports.specs.Told.{ActTold, CardTold, SessionTold}
 
 -- A flag cast to a byte.
 pub as-byte : (b : Bool) → boolByte b ≡ one b

@@ -1,52 +1,25 @@
 -- The results of some exported calls, each by its own promise: 01's answers as plain numbers, and what stands beside a refusal.
 -- `proofs.AgainstCases` computes them from the definitions.
 --
--- A half by its levels, its address and its flags: SV 1, P1 2, R1 4, programming 8, latch 16, E1 32, match 64. Of `sample` bit 0 is 0,
--- bits 1 and 96 are 1.
+-- A half by its levels, its address and its flags: SV 1, P1 2, R1 4, programming 8, latch 16, E1 32, match 64.
 use Prim.Native.Nat.{ℕ}
+use mathlib.Core.Path.{_≡_}
 use mathlib.Core.Bool.{true, false}
 use mathlib.Core.List.{List, [], _∷_, _++_}
-use lib.ListN.{take, replicate, set}
+use lib.ListN.{take, replicate}
 use Rattle.rules.specs.Maker.{reset, walk, walkRefusal}
-use Rattle.rules.specs.CaseForms.{zero, one, released, no-answer, L1, L2, sample, cardFile, session}
-use Rattle.volatile.specs.Packed.{given}
+use Rattle.rules.specs.CaseForms.{zero, no-answer, L1, L2, sample, cardFile, session}
 use Rattle.volatile.specs.Cases.{Gives, half}
 use Rattle.card.specs.Contracts.{flagsOf}
-use Rattle.exports.specs.Rendered.{flagBytes, isHigh}
-use Rattle.exports.specs.Told.{StepTold, StepToldAt, RunTold, ActTold, CardTold, SessionTold}
+use Rattle.exports.specs.Rendered.{ofWalk, ofStep, flagBytes, isHigh}
+use Rattle.exports.specs.Told.{ActTold, CardTold, SessionTold}
 
+-- A walk and a step in the exported numbers, each part in its field. What the numbers are is pinned in `card`.
 abbrev pub Steps-told : Type 0
 Steps-told =
-    -- CLK rises at 0 and at 1, bit 96 is written while match holds, ISS is blown.
-    StepTold (given sample 5 (half 17 0 0)) 21 (record { half = half 21 0 16; fuses = 5; answer = zero; refusal = 0 }) sample ×
-    StepTold (given sample 5 (half 17 1 0)) 21 (record { half = half 21 1 16; fuses = 5; answer = one; refusal = 0 }) sample ×
-    StepTold (given sample 5 (half 21 96 72)) 17 (record { half = half 17 96 65; fuses = 5; answer = zero; refusal = 0 }) (set sample 12 127) ×
-    StepTold (given sample 7 (half 23 1504 9)) 19 (record { half = half 19 1504 1; fuses = 3; answer = released; refusal = 0 }) sample ×
-    -- 2 and 9: both halves as they came.
-    StepTold (given sample 5 (half 17 0 0)) 22 (record { half = half 17 0 0; fuses = 5; answer = no-answer; refusal = 2 }) sample ×
-    StepTold (given sample 5 (half 21 96 200)) 17 (record { half = half 21 96 200; fuses = 5; answer = no-answer; refusal = 9 }) sample ×
-    -- On a half that is lent: the same write, the same blow, 2.
-    StepToldAt (given sample 5 (half 21 96 72)) 17 (record { fuses = 5; answer = zero; refusal = 0 }) (half 17 96 65) (set sample 12 127) ×
-    StepToldAt (given sample 7 (half 23 1504 9)) 19 (record { fuses = 3; answer = released; refusal = 0 }) (half 19 1504 1) sample ×
-    StepToldAt (given sample 5 (half 17 0 0)) 22 (record { fuses = 5; answer = no-answer; refusal = 2 }) (half 17 0 0) sample
-
-abbrev pub Runs-told : Type 0
-Runs-told =
-    -- ISS is blown and RST falls; the third answer keeps its byte.
-    RunTold (given sample 7 (half 23 1504 9)) (19 ∷ 17 ∷ []) (70 ∷ 71 ∷ 72 ∷ [])
-    (record { half = half 17 0 1; done = 2; fuses = 3; refusal = 0 })
-    sample
-    (released ∷ zero ∷ 72 ∷ []) ×
-    -- Bit 96 is written while match holds; the fourth step is refused by 2.
-    RunTold (given sample 5 (half 13 96 72)) (5 ∷ 21 ∷ 17 ∷ 22 ∷ []) (70 ∷ 71 ∷ 72 ∷ 73 ∷ [])
-    (record { half = half 17 96 65; done = 3; fuses = 5; refusal = 2 })
-    (set sample 12 127)
-    (released ∷ released ∷ zero ∷ 73 ∷ []) ×
-    -- 19: "count 0", all as it came.
-    RunTold (given sample 5 (half 21 96 72)) (17 ∷ 17 ∷ []) (70 ∷ [])
-    (record { half = half 21 96 72; done = 0; fuses = 5; refusal = 19 })
-    sample
-    (70 ∷ [])
+    (ofWalk (record { volatile = half 21 0 16; pin = zero }) 5 ≡ record { half = half 21 0 16; fuses = 5; answer = zero; refusal = 0 }) ×
+    (ofStep (record { fuses = 5; volatile = half 17 0 7; pin = no-answer; refusal = 2 }) ≡
+    record { half = half 17 0 7; fuses = 5; answer = no-answer; refusal = 2 })
 
 -- The flags, each alone in its field, and none beside 9.
 abbrev pub Flags-told : Type 0

@@ -3,9 +3,8 @@ ghost use mathlib.Core.Path.{_≡_};
 ghost use Rattle.rules.specs.Halves.{fresh};
 ghost use Rattle.rules.specs.Card.{triesLeft};
 ghost use Rattle.volatile.specs.Packed.{packed, given};
-ghost use Rattle.card.specs.Contracts.{flagsOf};
+ghost use Rattle.card.specs.Contracts.{StepTold, RunAnswered, flagsOf};
 ghost use Rattle.exports.specs.Rendered.{ofWalk, ofStep, flagBytes};
-ghost use Rattle.exports.specs.Told.{StepTold, StepToldAt, RunTold};
 use card::FlagsAnswer;
 use card::Told;
 use card::Walked;
@@ -83,7 +82,7 @@ fn of_step(s: Told) -> ZhavStepped
 // One step. A walk is told at once.
 #[no_mangle]
 pub extern "C" fn zhav_step(image: &mut [u8], fuses: u8, v: Volatile, n: u8) -> ZhavStepped
-    ensures { λ r. ⌜ StepTold (given (now (image .entry)) fuses v) n r (now (image .exit)) ⌝ }
+    ensures { λ r. ⌜ StepTold (given (now (image .entry)) fuses v) n (given (now (image .exit)) (r .fuses) (r .half)) (r .answer) (r .refusal) ⌝ }
 {
     let w = card::walk_step(image, fuses, v, n);
     if w.pin != card::NO_WALK {
@@ -94,7 +93,7 @@ pub extern "C" fn zhav_step(image: &mut [u8], fuses: u8, v: Volatile, n: u8) -> 
 
 // The same for `zhav_step_at` alone: a function with one caller becomes part of it, one with two is called.
 fn step_lent(image: &mut [u8], fuses: u8, v: Volatile, n: u8) -> ZhavStepped
-    ensures { λ r. ⌜ StepTold (given (now (image .entry)) fuses v) n r (now (image .exit)) ⌝ }
+    ensures { λ r. ⌜ StepTold (given (now (image .entry)) fuses v) n (given (now (image .exit)) (r .fuses) (r .half)) (r .answer) (r .refusal) ⌝ }
 {
     let w = card::walk_step(image, fuses, v, n);
     if w.pin != card::NO_WALK {
@@ -106,7 +105,7 @@ fn step_lent(image: &mut [u8], fuses: u8, v: Volatile, n: u8) -> ZhavStepped
 // One step on a volatile half that is lent: what stands there afterwards is the half that the step hands back.
 #[no_mangle]
 pub extern "C" fn zhav_step_at(image: &mut [u8], fuses: u8, v: &mut Volatile, n: u8) -> ZhavTold
-    ensures { λ r. ⌜ StepToldAt (given (now (image .entry)) fuses (now (v .entry))) n r (now (v .exit)) (now (image .exit)) ⌝ }
+    ensures { λ r. ⌜ StepTold (given (now (image .entry)) fuses (now (v .entry))) n (given (now (image .exit)) (r .fuses) (now (v .exit))) (r .answer) (r .refusal) ⌝ }
 {
     let s = step_lent(image, fuses, *v, n);
     *v = s.half;
@@ -126,7 +125,7 @@ pub extern "C" fn zhav_run(
     steps: &[u8],
     answers: &mut [u8],
 ) -> ZhavRan
-    ensures { λ r. ⌜ RunTold (given (now (image .entry)) fuses v) (now (steps .entry)) (now (answers .entry)) r (now (image .exit)) (now (answers .exit)) ⌝ }
+    ensures { λ r. ⌜ RunAnswered (given (now (image .entry)) fuses v) (now (steps .entry)) (now (answers .entry)) (given (now (image .exit)) (r .fuses) (r .half)) (r .done) (r .refusal) (now (answers .exit)) ⌝ }
 {
     let ran = card::run(image, fuses, v, steps, answers);
     let half = ran.volatile;

@@ -1,6 +1,5 @@
 use native.Mathlib.Omega.{arith}
 use Rattle.card.proofs.AtOnce.{walk-told}
-use Rattle.exports.proofs.Shown.{as-told}
 use borrow.Author.Needs.{needs}
 use Rattle.exports.proofs.steps.zhav_step.Statement.{statement}
 use Rattle.exports.proofs.steps.zhav_step.Tie as tie
@@ -10,10 +9,10 @@ returns c =
     let walk = c .before .before .before in
     let start = walk .before .before .before in
     rw (c .of-walk .ensures)
-    (as-told (walk-told _ _ (omega (arith, start .fits)) (walk .walk-step .ensures) (c .before .if1 .taken)))
+    (walk-told _ _ (omega (arith, start .fits)) (walk .walk-step .ensures) (c .before .if1 .taken))
 
 returns-2 : tie.Need-returns-2
-returns-2 c = rw (c .of-step .ensures) (as-told (c .before .before .before .step-told .ensures))
+returns-2 c = rw (c .of-step .ensures) (c .before .before .before .step-told .ensures)
 
 pub zhav-step-spec : {M : Type 1} → statement M
 zhav-step-spec =

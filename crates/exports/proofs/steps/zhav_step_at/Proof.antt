@@ -45,12 +45,12 @@ use denote.Triple.Walked.{walkOf, goes-ref, goes-none, goes-gave-slice, Walks, e
 use denote.Exit.{yes}
 use denote.Signature.{plain}
 use Rattle.volatile.specs.declared.Volatile.{Volatile}
-use Rattle.volatile.specs.Packed.{Given as GivenCard, given}
+use Rattle.volatile.specs.Packed.{given}
 use Rattle.volatile.proofs.Volatile as T
 use Rattle.volatile.proofs.Volatile.Laws as T′
 use Rattle.exports.specs.declared.steps.ZhavStepped.{ZhavStepped}
 use Rattle.exports.specs.declared.steps.ZhavTold.{ZhavTold}
-use Rattle.exports.specs.Told.{StepTold, StepToldAt}
+use Rattle.card.specs.Contracts.{StepTold}
 use Rattle.exports.proofs.steps.ZhavStepped as S
 use Rattle.exports.proofs.steps.ZhavStepped.Laws as S′
 use Rattle.exports.proofs.steps.ZhavTold as U
@@ -78,9 +78,6 @@ Step 𝓤 H A at-mem run = tripleOf 𝓤 H A step.signature (step.spec 𝓤 H A 
 -- what the call tells of what `step_lent` told
 abbrev toldBy : ZhavStepped → ZhavTold
 toldBy r = record { fuses = r .fuses; answer = r .answer; refusal = r .refusal }
-
-told-at : {g : GivenCard} {n : ℕ} {r : ZhavStepped} {after : List ℕ} → StepTold g n r after → StepToldAt g n (toldBy r) (r .half) after
-told-at told = record { card = told .card; answer = told .answer; refusal = told .refusal }
 
 -- the machine values of the half and of the result
 abbrev half : Volatile → Val
@@ -117,6 +114,10 @@ module _ {M : Type 1} (𝓤 : URA M) (H : Heap 𝓤) (A : Atoms 𝓤) (W : Given
   abbrev Post : Val → SProp 𝓤
   Post = walkOf 𝓤 H A step-at.ended stayed (step-at.clauses 𝓤 H A at-mem run) .post (((κ, (κ′, tt)), (q, (q′, tt)), tt, a, vals), tt)
 
+  -- what `zhav_step`'s own step promises of what it hands back, at some last image
+  abbrev Stepped : ZhavStepped → List ℕ → Type 0
+  Stepped r zs = StepTold (given ys f h) n (given zs (r .fuses) (r .half)) (r .answer) (r .refusal)
+
   -- what the callee's triple binds outside: the image's borrow as it is, and the half by value
   abbrev to-step : Step 𝓤 H A at-mem run .Ghost
   to-step = (((κ, tt), (q, tt), tt, (x, (f, (h, (n, tt)))), (s ∷ [], (vint w8 f ∷ [], (half h ∷ [], (vint w8 n ∷ [], tt))))), tt)
@@ -131,7 +132,7 @@ module _ {M : Type 1} (𝓤 : URA M) (H : Heap 𝓤) (A : Atoms 𝓤) (W : Given
       owned ! u8 (Is u8) (uint-makes 𝓤 H A W w8) f _ (refl, f-fits) $ fjoin ! $
       move ! (2 ∷ 0 ∷ []) $ fjoin ! $ move ! (1 ∷ 0 ∷ []) $ join ! $ frame ! $ done !
 
-  exits : (r : ZhavStepped) (zs : List ℕ) → StepTold (given ys f h) n r zs → length zs ≡ length ys
+  exits : (r : ZhavStepped) (zs : List ℕ) → Stepped r zs → length zs ≡ length ys
       → Is U.the-row (toldBy r) (told (toldBy r) ∷ [])
       → ent 𝓤 (⋆ 𝓤 H A (‵ (fobs γ′ (T.the-row .coded .code (r .half))) ∷ ‵ (fbor κ′ (Body (mem T.the-row) b′ o′ γ′)) ∷ ‵ (flft κ′ q′) ∷
       (‵ (flft κ q) ⊛ ‵ ftrue) ∷ ‵ (finally u8 γ zs) ∷ [])) (Post (told (toldBy r)))
@@ -141,7 +142,7 @@ module _ {M : Type 1} (𝓤 : URA M) (H : Heap 𝓤) (A : Atoms 𝓤) (W : Given
       suffices ! _ (ends-at 𝓤 H A step-at.ended stayed (step-at.clauses 𝓤 H A at-mem run) W
       (((κ, (κ′, tt)), (q, (q′, tt)), tt, a, vals), tt) (told (toldBy r)) (toldBy r) (zs, (tt, (r .half, (tt, tt))))
       (l, (tt, (tt, (tt, tt))))) $
-      says ! (told-at e) $ move ! (3 ∷ []) $ split ! $ move ! (4 ∷ 1 ∷ []) $ join ! $ move ! (1 ∷ 0 ∷ []) $ join ! $ frame ! $
+      says ! e $ move ! (3 ∷ []) $ split ! $ move ! (4 ∷ 1 ∷ []) $ join ! $ move ! (1 ∷ 0 ∷ []) $ join ! $ frame ! $
       feqI ! (List Val) (vptr b′ o′ ∷ []) (vptr b′ o′ ∷ []) refl $ fjoin3 ! $ nothing ! $
       owned ! u8 (Is u8) (uint-makes 𝓤 H A W w8) n _ (refl, n-fits) $ fjoin ! $ move ! (1 ∷ 0 ∷ []) $ fjoin ! $
       owned ! u8 (Is u8) (uint-makes 𝓤 H A W w8) f _ (refl, f-fits) $ fjoin ! $ move ! (1 ∷ 0 ∷ []) $ fjoin ! $
@@ -190,8 +191,8 @@ module _ {M : Type 1} (𝓤 : URA M) (H : Heap 𝓤) (A : Atoms 𝓤) (W : Given
         -- what `step_lent` ensures, at some last image
         split ! $ move ! (1 ∷ []) $
         use1 W (some (λ (zs : List ℕ × (Unit {0} × (Unit {0} × (Unit {0} × Unit {0})))).
-        ‵ (lasts step.ended (κ, tt) (x, (f, (h, (n, tt)))) zs) ⊛ raw (fact 𝓤 (StepTold (given ys f h) n r (zs .0))))) (id⊢ 𝓤 _) $
-        pick ! (λ zs. split ! $ move ! (1 ∷ []) $ heard ! (StepTold (given ys f h) n r (zs .0)) (λ e.
+        ‵ (lasts step.ended (κ, tt) (x, (f, (h, (n, tt)))) zs) ⊛ raw (fact 𝓤 (Stepped r (zs .0))))) (id⊢ 𝓤 _) $
+        pick ! (λ zs. split ! $ move ! (1 ∷ []) $ heard ! (Stepped r (zs .0)) (λ e.
         fsplit ! $ fsplit ! $ move ! (1 ∷ []) $ feqL ! (λ l.
         move ! (2 ∷ []) $ split ! $ move ! (1 ∷ []) $ peeks ! S.the-row (Is S.the-row) (shows 𝓤 H A S.the-row) r (w ∷ []) (λ is.
         land ! (from ! (stop !)) (init ! 15 refl (LL.lawful S.the-type S′.the-laws 𝓤 H A W .typed r _ is .0)) $
