@@ -26,15 +26,24 @@ as-one : (b : Bool) (m : ℕ) → cond b 0 m ≡ m * one (not b)
 as-one true m = omega arith
 as-one false m = omega arith
 
+-- The sum of what is missing, as the code makes it.
 pub missing :
-    (sv p1 e1 mf iss fus opened : Bool) →
-    1 + cond sv 0 2 + cond p1 0 4 + cond e1 0 8 + (cond mf 0 16 + cond iss 0 32) + cond fus 0 64 + cond opened 0 128 ≡
-    1 +
-    2 *
-    (one (not sv) +
-    2 * (one (not p1) + 2 * (one (not e1) + 2 * (one (not mf) + 2 * (one (not iss) + 2 * (one (not fus) + 2 * one (not opened)))))))
-missing sv p1 e1 mf iss fus opened =
-    rw (as-one sv 2, as-one p1 4, as-one e1 8, as-one mf 16, as-one iss 32, as-one fus 64, as-one opened 128) (omega arith)
+    (h : Held) →
+    1 + cond (h .sv) 0 2 + cond (h .p1) 0 4 + cond (h .e1) 0 8 + (cond (h .mf) 0 16 + cond (h .iss) 0 32) + cond (h .fus) 0 64 +
+    cond (h .sv || h .r1) 0 128 ≡
+    lackingOf h
+unfolding lackingOf
+missing h =
+    rw (
+      as-one (h .sv) 2,
+      as-one (h .p1) 4,
+      as-one (h .e1) 8,
+      as-one (h .mf) 16,
+      as-one (h .iss) 32,
+      as-one (h .fus) 64,
+      as-one (h .sv || h .r1) 128,
+    )
+    (omega arith)
 
 -- A word of flags is not zero exactly where one of them is set.
 any-flag :

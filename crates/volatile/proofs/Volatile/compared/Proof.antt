@@ -8,23 +8,53 @@ use Rattle.volatile.proofs.Volatile.compared.Tie as tie
 
 returns : tie.Need-returns
 unfolding comparedHere compared unpacked
-returns c = rw (under 80 95 (c .before .before .before .args .self .address) (c .if1 .taken), under 1200 1231 (c .before .before .before .args .self .address) (omega arith)) (c .before .is-set .ensures)
+returns c =
+    let matched = c .before in
+    let a = matched .before .before .args .self .address in
+    rw (under 80 95 a (c .if1 .taken), under 1200 1231 a (omega arith)) (matched .is-set .ensures)
 
 returns-2 : tie.Need-returns-2
 unfolding comparedHere compared unpacked
-returns-2 c = rw (within 80 95 (c .before .before .before .before .before .before .before .args .self .address) (omega arith) (omega arith), c .is-set3 .ensures, c .before .before .is-set2 .ensures, c .before .read-bit .ensures, c .before .before .before .before .before .is-set .ensures)
+returns-2 c =
+    let stored = c .before in
+    let latched = stored .before in
+    let matched = latched .before .before .before in
+    let a = matched .before .before .args .self .address in
+    rw (
+      within 80 95 a (omega arith) (omega arith),
+      c .is-set3 .ensures,
+      latched .is-set2 .ensures,
+      stored .read-bit .ensures,
+      matched .is-set .ensures,
+    )
 
 returns-3 : tie.Need-returns-3
 unfolding comparedHere compared unpacked
-returns-3 c = rw (over 80 95 (c .before .before .before .before .before .args .self .address) (omega arith), under 1200 1231 (c .before .before .before .before .before .args .self .address) (omega arith)) (c .before .before .before .is-set .ensures)
+returns-3 c =
+    let matched = c .before .before .before in
+    let a = matched .before .before .args .self .address in
+    rw (over 80 95 a (omega arith), under 1200 1231 a (c .if3 .taken)) (matched .is-set .ensures)
 
 returns-4 : tie.Need-returns-4
 unfolding comparedHere compared unpacked
-returns-4 c = rw (over 80 95 (c .before .before .before .before .before .before .args .self .address) (omega arith), over 1200 1231 (c .before .before .before .before .before .before .args .self .address) (omega arith)) (c .before .before .before .before .is-set .ensures)
+returns-4 c =
+    let matched = c .before .before .before .before in
+    let a = matched .before .before .args .self .address in
+    rw (over 80 95 a (omega arith), over 1200 1231 a (c .if4 .taken)) (matched .is-set .ensures)
 
 returns-5 : tie.Need-returns-5
 unfolding comparedHere compared unpacked
-returns-5 c = rw (over 80 95 (c .before .before .before .before .before .before .before .before .args .self .address) (omega arith), within 1200 1231 (c .before .before .before .before .before .before .before .before .args .self .address) (omega arith) (omega arith), c .before .is-set4 .ensures, c .read-bit2 .ensures, c .before .before .before .before .before .before .is-set .ensures)
+returns-5 c =
+    let latched = c .before in
+    let matched = latched .before .before .before .before .before in
+    let a = matched .before .before .args .self .address in
+    rw (
+      over 80 95 a (omega arith),
+      within 1200 1231 a (omega arith) (omega arith),
+      latched .is-set4 .ensures,
+      c .read-bit2 .ensures,
+      matched .is-set .ensures,
+    )
 
 pub compared-spec : {M : Type 1} → statement M
 compared-spec =

@@ -1,22 +1,40 @@
 use Rattle.rules.specs.Halves.{fusePlace, unblown}
 use Rattle.rules.specs.Lines.{high, place}
 use Rattle.rules.specs.Rights.{held}
-use Rattle.volatile.specs.Packed.{unpacked, lackingOf}
-use Rattle.memory.specs.Image.{digit}
+use Rattle.volatile.specs.Packed.{unpacked}
 use Rattle.volatile.proofs.Sums.{missing}
-use mathlib.Core.Bool.{_||_}
 use borrow.Author.Needs.{needs}
 use Rattle.volatile.proofs.Volatile.lacking.Statement.{statement}
 use Rattle.volatile.proofs.Volatile.lacking.Tie as tie
 
 returns : tie.Need-returns
-unfolding lackingOf held unpacked unblown fusePlace high place
+unfolding held unpacked unblown fusePlace high place
 returns c =
-    let v = c .before .before .before .before .before .before .before .before .before .before .before .before .before .before .args .self in
-    let f = c .before .before .before .before .before .before .before .before .before .before .before .before .before .before .args .fuses in
-    rw
-    (c .before .before .before .before .before .before .before .before .before .before .before .before .unless .ensures .0, c .before .before .before .before .before .before .before .before .before .before .unless2 .ensures .0, c .before .before .before .before .before .before .before .before .unless3 .ensures .0, c .before .before .before .before .before .before .unless4 .ensures .0, c .before .before .before .before .unless5 .ensures .0, c .before .unless6 .ensures .0, c .unless7 .ensures .0, c .before .before .before .before .before .before .before .before .before .before .before .before .before .is-set .ensures, c .before .before .before .before .before .before .before .before .before .before .before .is-set2 .ensures, c .before .before .before .before .before .before .before .before .before .is-set3 .ensures, c .before .before .before .before .before .before .before .is-set4 .ensures, c .before .before .before .before .before .is-set5 .ensures, c .before .before .before .is-set6 .ensures, c .before .before .is-set7 .ensures)
-    (missing (digit 0 (v .flags)) (digit 1 (v .flags)) (digit 5 (v .flags)) (digit 0 f) (digit 2 f) (digit 5 (v .lines)) (digit 0 (v .flags) || digit 2 (v .flags)))
+    let fus = c .before in
+    let r1 = fus .before .before in
+    let iss = r1 .before in
+    let mf = iss .before .before in
+    let e1 = mf .before .before in
+    let p1 = e1 .before .before in
+    let sv = p1 .before .before in
+    let args = sv .before .before .args in
+    rw (
+      sv .unless .ensures .0,
+      p1 .unless2 .ensures .0,
+      e1 .unless3 .ensures .0,
+      mf .unless4 .ensures .0,
+      iss .unless5 .ensures .0,
+      fus .unless6 .ensures .0,
+      c .unless7 .ensures .0,
+      sv .before .is-set .ensures,
+      p1 .before .is-set2 .ensures,
+      e1 .before .is-set3 .ensures,
+      mf .before .is-set4 .ensures,
+      iss .before .is-set5 .ensures,
+      r1 .is-set6 .ensures,
+      fus .before .is-set7 .ensures,
+    )
+    (missing (held (args .fuses) (unpacked (args .self))))
 
 pub lacking-spec : {M : Type 1} → statement M
 lacking-spec =

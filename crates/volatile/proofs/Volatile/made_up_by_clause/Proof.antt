@@ -7,9 +7,23 @@ use Rattle.volatile.proofs.Volatile.made_up_by_clause.Tie as tie
 returns : tie.Need-returns
 unfolding between
 returns c =
-    rw
-    (c .before .before .before .before .before .before .before .is-set .ensures, c .before .before .before .before .before .before .is-set2 .ensures, c .before .before .before .before .before .is-set3 .ensures, c .before .before .before .before .is-set4 .ensures, c .before .before .before .is-set5 .ensures, c .before .before .is-set6 .ensures, c .before .is-set7 .ensures)
-    (checked-together (c .before .before .before .before .before .before .before .before .args .self))
+    let e1 = c .before in
+    let matched = e1 .before in
+    let pgm = matched .before in
+    let latch = pgm .before in
+    let programming = latch .before in
+    let clk = programming .before in
+    let vcc = clk .before in
+    rw (
+      vcc .is-set .ensures,
+      clk .is-set2 .ensures,
+      programming .is-set3 .ensures,
+      latch .is-set4 .ensures,
+      pgm .is-set5 .ensures,
+      matched .is-set6 .ensures,
+      e1 .is-set7 .ensures,
+    )
+    (checked-together (vcc .before .args .self))
 
 pub made-up-by-clause-spec : {M : Type 1} → statement M
 made-up-by-clause-spec =

@@ -15,28 +15,36 @@ use Rattle.volatile.proofs.Volatile.may_program.Tie as tie
 returns : tie.Need-returns
 unfolding high place unpacked
 returns c =
-    let args = c .before .before .before .before .args in
-    let other : Bool·beq (c .before .before .is-set .result) (c .before .is-fuse .result) ≡ false =
-    not-true (Bool·beq (c .before .before .is-set .result) (c .before .is-fuse .result)) (c .if1 .taken) in
+    let fuse = c .before in
+    let rst = fuse .before in
+    let zoned = rst .before in
+    let args = zoned .before .args in
+    let apart = not-true (Bool·beq (rst .is-set .result) (fuse .is-fuse .result)) (c .if1 .taken) in
     sym
     (may-program-by (args .fuses) (unpacked (args .self)) false
-    (rw (c .before .before .is-set .ensures, c .before .is-fuse .ensures, c .before .before .before .zone-of .ensures) at other))
+    (rw (rst .is-set .ensures, fuse .is-fuse .ensures, zoned .zone-of .ensures) at apart))
 
 returns-2 : tie.Need-returns-2
 unfolding high place unpacked unblown fusePlace
 returns-2 c =
-    let args = c .before .before .before .before .before .before .before .before .before .args in
-    let h = held (args .fuses) (unpacked (args .self)) in
-    let small : c .before .asks-of .result < 256 = omega (arith, c .before .asks-of .ok) in
-    let same : Bool·beq (c .before .before .before .before .before .before .before .is-set .result) (c .before .before .before .before .before .before .is-fuse .result) ≡ true =
-    not-false (Bool·beq (c .before .before .before .before .before .before .before .is-set .result) (c .before .before .before .before .before .before .is-fuse .result)) (c .before .before .before .before .before .if1 .left) in
+    let asked = c .before in
+    let level = asked .before in
+    let ec-en = level .before in
+    let latched = ec-en .before in
+    let together = latched .before in
+    let fuse = together .before in
+    let rst = fuse .before in
+    let zoned = rst .before in
+    let args = zoned .before .args in
+    let small : asked .asks-of .result < 256 = omega (arith, asked .asks-of .ok) in
+    let same = not-false (Bool·beq (rst .is-set .result) (fuse .is-fuse .result)) (together .if1 .left) in
     rw (
       may-program-by (args .fuses) (unpacked (args .self)) true
-          (rw (c .before .before .before .before .before .before .before .is-set .ensures, c .before .before .before .before .before .before .is-fuse .ensures, c .before .before .before .before .before .before .before .before .zone-of .ensures) at same),
+          (rw (rst .is-set .ensures, fuse .is-fuse .ensures, zoned .zone-of .ensures) at same),
       c .lacking .ensures,
     )
-    (granted-mask (c .before .asks-of .result) small h ∙
-    rw (c .before .asks-of .ensures, c .before .before .level1 .ensures, c .before .before .before .is-set3 .ensures, c .before .before .before .before .is-set2 .ensures, c .before .before .before .before .before .before .before .before .zone-of .ensures))
+    (granted-mask (asked .asks-of .result) small _ ∙
+    rw (asked .asks-of .ensures, level .level1 .ensures, ec-en .is-set3 .ensures, latched .is-set2 .ensures, zoned .zone-of .ensures))
 
 pub may-program-spec : {M : Type 1} → statement M
 may-program-spec =

@@ -9,19 +9,23 @@ use Rattle.volatile.proofs.Volatile.operation.Tie as tie
 returns : tie.Need-returns
 unfolding unpacked
 returns c =
-    let args = c .before .before .before .before .before .before .args in
+    let latched = c .before .before .before in
+    let granted = latched .before in
+    let asked = granted .before in
+    let args = asked .before .args in
     rw (
-      operation-by (args .fuses) (unpacked (args .self)) true (sym (c .before .before .before .before .before .may-program .ensures) ∙ c .before .before .before .before .if1 .taken),
+      operation-by (args .fuses) (unpacked (args .self)) true (sym (asked .may-program .ensures) ∙ granted .if1 .taken),
       c .effect-of .ensures,
       c .before .before .level1 .ensures,
-      c .before .before .before .is-set .ensures,
+      latched .is-set .ensures,
       c .before .zone-of .ensures,
     )
 
 returns-2 : tie.Need-returns-2
 returns-2 c =
-    let args = c .before .before .args in
-    rw (operation-by (args .fuses) (unpacked (args .self)) false (sym (c .before .may-program .ensures) ∙ c .if1 .left))
+    let asked = c .before in
+    let args = asked .before .args in
+    rw (operation-by (args .fuses) (unpacked (args .self)) false (sym (asked .may-program .ensures) ∙ c .if1 .left))
 
 pub operation-spec : {M : Type 1} → statement M
 operation-spec =

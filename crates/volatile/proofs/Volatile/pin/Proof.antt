@@ -11,8 +11,14 @@ returns c = rw (← c .before .driven .ensures, not-true (c .before .driven .res
 
 returns-2 : tie.Need-returns-2
 returns-2 c =
-    let asked = c .before .before .before in
-    rw (c .pin-value .ensures, c .before .read-bit .ensures, ← asked .before .driven .ensures, not-false (asked .before .driven .result) (asked .if1 .left))
+    let driven = c .before .before .before in
+    let asked = driven .before in
+    rw (
+      c .pin-value .ensures,
+      c .before .read-bit .ensures,
+      ← asked .driven .ensures,
+      not-false (asked .driven .result) (driven .if1 .left),
+    )
 
 pub pin-spec : {M : Type 1} → statement M
 pin-spec =

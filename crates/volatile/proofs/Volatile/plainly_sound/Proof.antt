@@ -14,13 +14,18 @@ returns-2 c = rw (le-ltb 63 _ (c .before .before .if1 .left), lt-ltb 31 _ (c .if
 
 returns-3 : tie.Need-returns-3
 unfolding plainlySound
-returns-3 c = rw (le-ltb 63 _ (c .before .before .before .before .if1 .left), le-ltb 31 _ (c .before .before .if2 .left), lt-ltb 1519 _ (c .if3 .taken))
+returns-3 c =
+    let few = c .before .before in
+    let low = few .before .before in
+    rw (le-ltb 63 _ (low .if1 .left), le-ltb 31 _ (few .if2 .left), lt-ltb 1519 _ (c .if3 .taken))
 
 returns-4 : tie.Need-returns-4
 unfolding plainlySound wired
 returns-4 c =
     let placed = c .before .before .before in
-    rw (le-ltb 63 _ (placed .before .before .before .before .if1 .left), le-ltb 31 _ (placed .before .before .if2 .left), le-ltb 1519 _ (placed .if3 .left))
+    let few = placed .before .before in
+    let low = few .before .before in
+    rw (le-ltb 63 _ (low .if1 .left), le-ltb 31 _ (few .if2 .left), le-ltb 1519 _ (placed .if3 .left))
 
 pub plainly-sound-spec : {M : Type 1} → statement M
 plainly-sound-spec =
