@@ -1,5 +1,5 @@
 -- The masks that the code puts on the word, as what the edges do to the flags.
-use Prim.Native.Nat.{ℕ, _%_, _≤_}
+use Prim.Native.Nat.{ℕ, _%_, _≤_, _<_}
 use native.Mathlib.Omega.{arith}
 use native.Mathlib.Nat.{mod-lt}
 use native.Mathlib.Decide.{ℕ-discrete}
@@ -18,40 +18,48 @@ use Rattle.rules.specs.Match.{arrived, endsMatch}
 use Rattle.rules.specs.Steps.{follows, clkRises, unlatched}
 use Rattle.volatile.specs.declared.Volatile.{Volatile}
 use Rattle.volatile.specs.Packed.{word, packed, unpacked, goneOn, programmedHalf, arrivalFlags, openingFlags}
-use Rattle.volatile.proofs.Packing.{at-digits, masked-flags, mask-low, digit-low, change-of-flags}
+use Rattle.volatile.proofs.Packing.{OfFlags, at-digits, masked-flags, mask-low, digit-low}
 
 abbrev pub half : ℕ → ℕ → ℕ → Volatile
 half lines address flags = record { lines = lines; address = address; flags = flags }
 
+-- The half whose word is made of a mask of v's, by one test over all words of seven flags.
+module _ (v : Volatile) (n a : ℕ) where
+  masked-half :
+      (f : ℕ → ℕ) (c : ℕ) (g : OfFlags) → c < 128 → all 128 (λ (x : ℕ). eqb (f (bitAnd x c)) (at-digits g x)) ≡ true →
+      half n a (f (bitAnd (v .flags) c)) ≡ half n a (at-digits g (v .flags))
+  masked-half f c g h t = ap (half n a) (masked-flags f c g h t (v .flags))
+
+  -- Of the flags alone.
+  kept-half :
+      (c : ℕ) (g : OfFlags) → c < 128 → all 128 (λ (x : ℕ). eqb (bitAnd x c) (at-digits g x)) ≡ true →
+      half n a (bitAnd (v .flags) c) ≡ half n a (at-digits g (v .flags))
+  kept-half = masked-half (λ (x : ℕ). x)
+
 module _ (v : Volatile) (n : ℕ) where
   pub follow-word : half n (v .address) (bitAnd (v .flags) 127) ≡ packed (follows n (unpacked v))
   unfolding packed follows unpacked all digit word
-  follow-word = ap (half n (v .address)) (masked-flags (λ (x : ℕ). x) 127 word (omega arith) refl (v .flags))
+  follow-word = kept-half v n (v .address) 127 word (omega arith) refl
 
-  pub reset-word : half n 0 (bitAnd (v .flags) 31) ≡ packed (arrived [] 0 0 (follows n (unpacked v)))
+  -- Address 0, by RST's fall or by CLK's: E1 and match end.
+  pub reset-word : (m : List ℕ) (fuses : ℕ) → half n 0 (bitAnd (v .flags) 31) ≡ packed (arrived m fuses 0 (follows n (unpacked v)))
   unfolding packed arrived endsMatch follows unpacked all digit word
-  reset-word =
-      ap (half n 0)
-      (masked-flags (λ (x : ℕ). x) 31 (λ sv p1 r1 programming latch e1 matched. word sv p1 r1 programming latch false false)
-      (omega arith) refl (v .flags))
+  reset-word m fuses =
+      kept-half v n 0 31 (λ sv p1 r1 programming latch e1 matched. word sv p1 r1 programming latch false false) (omega arith) refl
 
-  pub unlatched-word : (t : Bool) → half n (v .address) (cond t (bitOr (bitAnd (v .flags) 39) 64) (bitAnd (v .flags) 39)) ≡ packed (unlatched n t (unpacked v))
+  pub unlatched-word :
+      (t : Bool) →
+      half n (v .address) (cond t (bitOr (bitAnd (v .flags) 39) 64) (bitAnd (v .flags) 39)) ≡ packed (unlatched n t (unpacked v))
   unfolding packed unlatched unpacked all digit word
   unlatched-word true =
-      ap (half n (v .address))
-      (masked-flags (λ (x : ℕ). bitOr x 64) 39 (λ sv p1 r1 programming latch e1 matched. word sv p1 r1 false false e1 true) (omega arith)
-      refl (v .flags))
+      masked-half v n (v .address) (λ (x : ℕ). bitOr x 64) 39
+      (λ sv p1 r1 programming latch e1 matched. word sv p1 r1 false false e1 true) (omega arith) refl
   unlatched-word false =
-      ap (half n (v .address))
-      (masked-flags (λ (x : ℕ). x) 39 (λ sv p1 r1 programming latch e1 matched. word sv p1 r1 false false e1 false) (omega arith) refl
-      (v .flags))
+      kept-half v n (v .address) 39 (λ sv p1 r1 programming latch e1 matched. word sv p1 r1 false false e1 false) (omega arith) refl
 
   pub gone-on-word : (a : ℕ) → half n a (bitAnd (v .flags) 103) ≡ packed (goneOn n a (unpacked v))
   unfolding packed goneOn unpacked all digit word
-  gone-on-word a =
-      ap (half n a)
-      (masked-flags (λ (x : ℕ). x) 103 (λ sv p1 r1 programming latch e1 matched. word sv p1 r1 false false e1 matched) (omega arith) refl
-      (v .flags))
+  gone-on-word a = kept-half v n a 103 (λ sv p1 r1 programming latch. word sv p1 r1 false false) (omega arith) refl
 
   -- CLK's rise takes programming and the latch from the step.
   pub rise-word : half n (v .address) (bitOr (bitAnd (v .flags) 103) (bitAnd n 24)) ≡ packed (clkRises n (unpacked v))
@@ -59,46 +67,43 @@ module _ (v : Volatile) (n : ℕ) where
   rise-word =
       ap (half n (v .address))
       (ap (bitOr (bitAnd (v .flags) 103)) (mask-low 5 24 n (omega arith)) ∙
-      (ap (λ (x : ℕ). bitOr x (bitAnd (n % 32) 24)) (mask-low 7 103 (v .flags) (omega arith)) ∙
-      (change-of-flags (λ (x : ℕ). bitOr (bitAnd x 103) (bitAnd (n % 32) 24)) (taken (n % 32))
+      (masked-flags (λ (x : ℕ). bitOr x (bitAnd (n % 32) 24)) 103 (taken (n % 32)) (omega arith)
       (below 32 (λ (z : ℕ). all 128 (λ (x : ℕ). eqb (bitOr (bitAnd x 103) (bitAnd z 24)) (at-digits (taken z) x))) refl (n % 32)
       (mod-lt n (omega arith))) (v .flags) ∙
-      rw (digit-low 5 3 n (omega arith), digit-low 5 4 n (omega arith)))))
+      rw (digit-low 5 3 n (omega arith), digit-low 5 4 n (omega arith))))
     where
-      taken : ℕ → Bool → Bool → Bool → Bool → Bool → Bool → Bool → ℕ
-      taken z sv p1 r1 programming latch e1 matched = word sv p1 r1 (digit 3 z) (digit 4 z) e1 matched
+      taken : ℕ → OfFlags
+      taken z sv p1 r1 programming latch = word sv p1 r1 (digit 3 z) (digit 4 z)
 
 -- Arriving.
 module _ (m : List ℕ) (fuses : ℕ) (v : Volatile) where
   pub arrive-at-0 : half (v .lines) 0 (bitAnd (v .flags) 31) ≡ packed (arrived m fuses 0 (unpacked v))
-  unfolding packed arrived endsMatch unpacked all digit word
-  arrive-at-0 =
-      ap (half (v .lines) 0)
-      (masked-flags (λ (x : ℕ). x) 31 (λ sv p1 r1 programming latch e1 matched. word sv p1 r1 programming latch false false)
-      (omega arith) refl (v .flags))
+  unfolding follows unpacked
+  arrive-at-0 = reset-word v (v .lines) m fuses
 
-  -- Where match ends, and no flag can come.
-  pub record EndsMatch (a : ℕ) : Type 0 where
-    pub ends : endsMatch a ≡ true
-    pub on : eqb a 0 ≡ false
-    pub no-p1 : eqb a 176 ≡ false
-    pub no-r1 : eqb a 177 ≡ false
-    pub no-e1 : eqb a 1232 ≡ false
+  -- Match ends.
+  abbrev unmatched : OfFlags
+  unmatched sv p1 r1 programming latch e1 matched = word sv p1 r1 programming latch e1 false
 
-  pub arrive-ending : (a : ℕ) → EndsMatch a → half (v .lines) a (bitAnd (v .flags) 63) ≡ packed (arrived m fuses a (unpacked v))
-  unfolding packed arrived unpacked all digit word
-  arrive-ending a e =
-      rw (e .ends, e .on, e .no-p1, e .no-r1, e .no-e1)
-      (ap (half (v .lines) a)
-      (masked-flags (λ (x : ℕ). x) 63 (λ sv p1 r1 programming latch e1 matched. word sv p1 r1 programming latch e1 false)
-      (omega arith) refl (v .flags)))
+  unmatched-word : (a : ℕ) → half (v .lines) a (bitAnd (v .flags) 63) ≡ half (v .lines) a (at-digits unmatched (v .flags))
+  unfolding all digit word
+  unmatched-word a = kept-half v (v .lines) a 63 unmatched (omega arith) refl
 
-  -- With the flags that come.
-  sets :
-      (a f : ℕ) (g : Bool → Bool → Bool → Bool → Bool → Bool → Bool → ℕ) →
-      all 128 (λ (x : ℕ). eqb (bitOr (bitAnd x 127) f) (at-digits g x)) ≡ true →
-      half (v .lines) a (bitOr (bitAnd (v .flags) 127) f) ≡ half (v .lines) a (at-digits g (v .flags))
-  sets a f g t = ap (half (v .lines) a) (masked-flags (λ (x : ℕ). bitOr x f) 127 g (omega arith) t (v .flags))
+  pub arrive-at-104 : half (v .lines) 104 (bitAnd (v .flags) 63) ≡ packed (arrived m fuses 104 (unpacked v))
+  unfolding packed arrived endsMatch unpacked
+  arrive-at-104 = unmatched-word 104
+
+  pub arrive-at-1360 : half (v .lines) 1360 (bitAnd (v .flags) 63) ≡ packed (arrived m fuses 1360 (unpacked v))
+  unfolding packed arrived endsMatch unpacked
+  arrive-at-1360 = unmatched-word 1360
+
+  -- A flag that comes where t, by its place in the word.
+  comes :
+      (a k : ℕ) (g : Bool → OfFlags) → all 128 (λ (x : ℕ). eqb (bitOr (bitAnd x 127) k) (at-digits (g true) x)) ≡ true →
+      all 128 (λ (x : ℕ). eqb (bitOr (bitAnd x 127) 0) (at-digits (g false) x)) ≡ true → (t : Bool) →
+      half (v .lines) a (bitOr (bitAnd (v .flags) 127) (cond t k 0)) ≡ half (v .lines) a (at-digits (g t) (v .flags))
+  comes a k g set kept true = masked-half v (v .lines) a (λ (x : ℕ). bitOr x k) 127 (g true) (omega arith) set
+  comes a k g set kept false = masked-half v (v .lines) a (λ (x : ℕ). bitOr x 0) 127 (g false) (omega arith) kept
 
   pub arrive-elsewhere :
       (a : ℕ) → (a ≡ 0 → ⊥) → (a ≡ 104 → ⊥) → (a ≡ 1360 → ⊥) →
@@ -107,31 +112,19 @@ module _ (m : List ℕ) (fuses : ℕ) (v : Volatile) where
   unfolding packed arrived endsMatch unpacked arrivalFlags all digit word
   arrive-elsewhere a h0 h104 h1360 = go (ℕ-discrete a 176) (ℕ-discrete a 177) (ℕ-discrete a 1232)
     where
-      at-176 : (t : Bool) → half (v .lines) 176 (bitOr (bitAnd (v .flags) 127) (cond t 2 0)) ≡ half (v .lines) 176 (at-digits (λ sv p1. word sv (t || p1)) (v .flags))
-      at-176 true = sets 176 2 (λ sv p1. word sv true) refl
-      at-176 false = sets 176 0 word refl
-
-      at-177 : (t : Bool) → half (v .lines) 177 (bitOr (bitAnd (v .flags) 127) (cond t 4 0)) ≡ half (v .lines) 177 (at-digits (λ sv p1 r1. word sv p1 (t || r1)) (v .flags))
-      at-177 true = sets 177 4 (λ sv p1 r1. word sv p1 true) refl
-      at-177 false = sets 177 0 word refl
-
-      at-1232 :
-          (t : Bool) →
-          half (v .lines) 1232 (bitOr (bitAnd (v .flags) 127) (cond t 32 0)) ≡
-          half (v .lines) 1232 (at-digits (λ sv p1 r1 programming latch e1. word sv p1 r1 programming latch (t || e1)) (v .flags))
-      at-1232 true = sets 1232 32 (λ sv p1 r1 programming latch e1. word sv p1 r1 programming latch true) refl
-      at-1232 false = sets 1232 0 word refl
-
       go :
           Dec (a ≡ 176) → Dec (a ≡ 177) → Dec (a ≡ 1232) →
           half (v .lines) a (bitOr (bitAnd (v .flags) 127) (arrivalFlags m fuses a (digit 6 (v .flags)))) ≡
           packed (arrived m fuses a (unpacked v))
-      go (yes e) d f = rw e (at-176 (bit m 176))
-      go (no e) (yes d) f = rw d (at-177 (bit m 177))
-      go (no e) (no d) (yes f) = rw f (at-1232 (not (unblown EC-EN fuses) && digit 6 (v .flags)))
+      go (yes e) d f = rw e (comes 176 2 (λ t sv p1. word sv (t || p1)) refl refl (bit m 176))
+      go (no e) (yes d) f = rw d (comes 177 4 (λ t sv p1 r1. word sv p1 (t || r1)) refl refl (bit m 177))
+      go (no e) (no d) (yes f) =
+          rw f
+          (comes 1232 32 (λ t sv p1 r1 programming latch e1. word sv p1 r1 programming latch (t || e1)) refl refl
+          (not (unblown EC-EN fuses) && digit 6 (v .flags)))
       go (no e) (no d) (no f) =
           rw (ne-eqb a 0 h0, ne-eqb a 104 h104, ne-eqb a 1360 h1360, ne-eqb a 176 e, ne-eqb a 177 d, ne-eqb a 1232 f)
-          (sets a 0 word refl)
+          (comes a 0 (λ t. word) refl refl false)
 
 -- The two places where an operation sets a flag lie apart.
 apart : (a : ℕ) → between 96 103 a ≡ true → between 1232 1359 a ≡ false
@@ -142,24 +135,19 @@ apart a e =
 
 -- Programming's end.
 module _ (v : Volatile) (n : ℕ) (l1 ec-en turned : Bool) where
+  -- SV comes where s, E1 where e.
+  abbrev opened : Bool → Bool → OfFlags
+  opened s e sv p1 r1 programming latch e1 = word (s || sv) p1 r1 false false (e || e1)
+
   ends :
       (s e : Bool) → (s ≡ true → e ≡ false) →
       half n (v .address) (bitOr (bitAnd (v .flags) 103) (cond s 1 (cond e 32 0))) ≡
-      half n (v .address) (at-digits (λ sv p1 r1 programming latch e1. word (s || sv) p1 r1 false false (e || e1)) (v .flags))
+      half n (v .address) (at-digits (opened s e) (v .flags))
   unfolding all digit word
   ends true e h =
-      rw (h refl)
-      (ap (half n (v .address))
-      (masked-flags (λ (x : ℕ). bitOr x 1) 103 (λ sv p1 r1 programming latch e1. word true p1 r1 false false e1) (omega arith) refl
-      (v .flags)))
-  ends false true h =
-      ap (half n (v .address))
-      (masked-flags (λ (x : ℕ). bitOr x 32) 103 (λ sv p1 r1 programming latch e1. word sv p1 r1 false false true) (omega arith) refl
-      (v .flags))
-  ends false false h =
-      ap (half n (v .address))
-      (masked-flags (λ (x : ℕ). bitOr x 0) 103 (λ sv p1 r1 programming latch e1. word sv p1 r1 false false e1) (omega arith) refl
-      (v .flags))
+      rw (h refl) (masked-half v n (v .address) (λ (x : ℕ). bitOr x 1) 103 (opened true false) (omega arith) refl)
+  ends false true h = masked-half v n (v .address) (λ (x : ℕ). bitOr x 32) 103 (opened false true) (omega arith) refl
+  ends false false h = masked-half v n (v .address) (λ (x : ℕ). bitOr x 0) 103 (opened false false) (omega arith) refl
 
   -- The tests in the code's order and in the definition's.
   in-scac : (p t u : Bool) → (p && (t && u)) ≡ (p && (u && t))

@@ -1,24 +1,25 @@
-use mathlib.Core.Path.{refl}
-use denote.Ref.{now}
-use Rattle.rules.specs.Match.{endsMatch}
-use Rattle.volatile.proofs.Edges.{arrive-at-0, arrive-ending, arrive-elsewhere}
+use Rattle.volatile.proofs.Edges.{arrive-at-0, arrive-at-104, arrive-at-1360, arrive-elsewhere}
 use borrow.Author.Needs.{needs}
 use Rattle.volatile.proofs.Volatile.arrives.Statement.{statement}
 use Rattle.volatile.proofs.Volatile.arrives.Tie as tie
 
 returns : tie.Need-returns
-returns c = rw (c .if1 .taken) (arrive-at-0 (now (c .before .before .args .image)) (c .before .before .args .fuses) (c .before .before .args .self))
+returns c = rw (c .if1 .taken) (arrive-at-0 _ _ _)
 
 returns-2 : tie.Need-returns-2
-unfolding endsMatch
-returns-2 c = rw (c .if2 .taken) (arrive-ending (now (c .before .before .before .args .image)) (c .before .before .before .args .fuses) (c .before .before .before .args .self) 104 record { ends = refl; on = refl; no-p1 = refl; no-r1 = refl; no-e1 = refl })
+returns-2 c = rw (c .if2 .taken) (arrive-at-104 _ _ _)
 
 returns-3 : tie.Need-returns-3
-unfolding endsMatch
-returns-3 c = rw (c .if3 .taken) (arrive-ending (now (c .before .before .before .before .args .image)) (c .before .before .before .before .args .fuses) (c .before .before .before .before .args .self) 1360 record { ends = refl; on = refl; no-p1 = refl; no-r1 = refl; no-e1 = refl })
+returns-3 c = rw (c .if3 .taken) (arrive-at-1360 _ _ _)
 
 returns-4 : tie.Need-returns-4
-returns-4 c = rw (c .arrival .ensures, c .before .is-set .ensures) (arrive-elsewhere (now (c .before .before .before .before .before .before .args .image)) (c .before .before .before .before .before .before .args .fuses) (c .before .before .before .before .before .before .args .self) (c .before .before .before .before .before .before .args .a) (c .before .before .before .before .if1 .left) (c .before .before .before .if2 .left) (c .before .before .if3 .left))
+returns-4 c =
+    let matched = c .before in
+    let past-1360 = matched .before in
+    let past-104 = past-1360 .before in
+    let past-0 = past-104 .before in
+    rw (c .arrival .ensures, matched .is-set .ensures)
+    (arrive-elsewhere _ _ _ _ (past-0 .if1 .left) (past-104 .if2 .left) (past-1360 .if3 .left))
 
 pub arrives-spec : {M : Type 1} → statement M
 arrives-spec =
