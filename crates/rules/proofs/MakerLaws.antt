@@ -5,10 +5,10 @@ use mathlib.Core.Path.{_≡_, refl, ap}
 use mathlib.Core.Bool.{Bool, true, false}
 use mathlib.Core.List.{List, [], _∷_, _++_}
 use lib.ListN.{length, length-append}
-use Rattle.rules.specs.Maker.{reset, walk, digits, showBits, show, program, blow, zerosBefore, open-card}
+use Rattle.rules.specs.Maker.{reset, walk, digits, showBits, show, program, zerosBefore, open-card}
 
 -- "reset: RST up, down; 2 steps."
-pub length-reset : (fus : Bool) → length (reset fus) ≡ 2
+length-reset : (fus : Bool) → length (reset fus) ≡ 2
 unfolding reset
 length-reset fus = refl
 
@@ -33,21 +33,10 @@ pub length-show : (fus : Bool) (width x : ℕ) → length (show fus width x) ≡
 unfolding show
 length-show fus width x = rw (length-shown fus (digits width x), length-digits width x)
 
-pub length-show-16 : (fus : Bool) (x : ℕ) → length (show fus 16 x) ≡ 49
-length-show-16 fus x = length-show fus 16 x
-
-pub length-show-32 : (fus : Bool) (x : ℕ) → length (show fus 32 x) ≡ 97
-length-show-32 fus x = length-show fus 32 x
-
 -- "program d: PGM up, I/O d, CLK up, PGM down, I/O 1, CLK down; 6."
-pub length-program : (fus d : Bool) → length (program fus d) ≡ 6
+length-program : (fus d : Bool) → length (program fus d) ≡ 6
 unfolding program
 length-program fus d = refl
-
--- "blow: RST up, program 0, RST down; 8."
-pub length-blow : (fus : Bool) → length (blow fus) ≡ 8
-unfolding blow
-length-blow fus = refl
 
 -- "reset, walk 80, show, walk k, write, erase"
 length-parts : (fus : Bool) (code k : ℕ) →

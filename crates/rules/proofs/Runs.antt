@@ -9,7 +9,7 @@ use borrow.Author.Tests.{eqb-false, ne-eqb}
 use Rattle.rules.specs.Halves.{Card}
 use Rattle.rules.specs.Refusals.{refusal}
 use Rattle.rules.specs.Steps.{next, pin}
-use Rattle.rules.specs.Card.{Ran, added, ended, run}
+use Rattle.rules.specs.Card.{Ran, added, run}
 
 -- A run with answers that were given before it.
 abbrev pub behind : List ℕ → Ran → Ran

@@ -4,7 +4,6 @@ use native.Mathlib.Omega.{arith}
 use native.Mathlib.Nat.{mod-lt, zero-min, pow-suc}
 use mathlib.Core.Path.{_≡_, refl, sym, ap, _∙_}
 use mathlib.Core.Bool.{Bool, true, false, cond, not, _&&_, _||_, Bool·beq, and-true, false≢true}
-use mathlib.Core.List.{List}
 use lib.Dec.{eqb, ltb}
 use lib.Bits.{bitAnd, and-step, and-zero-l}
 use borrow.Author.Tests.{ltb-false, eq-eqb, ne-eqb}

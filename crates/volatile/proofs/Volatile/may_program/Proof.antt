@@ -1,11 +1,10 @@
 use Prim.Native.Nat.{_<_}
 use native.Mathlib.Omega.{arith}
 use borrow.Author.Tests.{not-true, not-false}
-use mathlib.Core.Path.{_≡_, sym, _∙_}
+use mathlib.Core.Path.{sym, _∙_}
 use mathlib.Core.Bool.{true, false, Bool·beq}
 use Rattle.rules.specs.Halves.{unblown, fusePlace}
 use Rattle.rules.specs.Lines.{high, place}
-use Rattle.rules.specs.Rights.{held}
 use Rattle.volatile.specs.Packed.{unpacked}
 use Rattle.volatile.proofs.Sums.{granted-mask, may-program-by}
 use borrow.Author.Needs.{needs}
