@@ -8,12 +8,13 @@ use mathlib.Core.Bool.{Bool, true}
 use mathlib.Core.List.{[], _∷_}
 use lib.Dec.{eqb}
 use lib.ListN.{getD}
-use borrow.Author.Tests.{eqb-true, le-leb, lt-leb, ne-eqb}
+use borrow.Author.Tests.{eqb-true}
 use Rattle.memory.proofs.Below.{all, below}
 use Rattle.rules.specs.declared.Zone.{Zone}
 use Rattle.rules.specs.declared.Zone.the-variants.{FZ, IZ, SC, SCAC, CPZ, AZ, EZ, EC, MTZ, MFZ}
 use Rattle.rules.specs.declared.Zone.the-variants.{Block, FuseMF, FuseECEN, FuseISS, Gap}
-use Rattle.rules.specs.Zones.{zone, row, between}
+use Rattle.rules.specs.Zones.{zone, row}
+pub use Rattle.rules.proofs.ZoneCases.{past-all}
 
 -- The zone of a row.
 at-row : ℕ → Zone
@@ -57,27 +58,6 @@ in-range low count z t a w =
     row-injective z (zone a)
     (eqb-true (row z) (row (zone a))
     (rw e at (below count (λ (j : ℕ). eqb (row z) (row (zone (low + j)))) t (a - low) (omega arith))))
-
-pub past-all : (a : ℕ) → 1519 < a → Gap ≡ zone a
-unfolding zone between
-past-all a h =
-    rw (
-      lt-leb a 15 (omega arith),
-      lt-leb a 79 (omega arith),
-      lt-leb a 95 (omega arith),
-      lt-leb a 111 (omega arith),
-      lt-leb a 175 (omega arith),
-      lt-leb a 1199 (omega arith),
-      lt-leb a 1231 (omega arith),
-      lt-leb a 1359 (omega arith),
-      lt-leb a 1375 (omega arith),
-      lt-leb a 1391 (omega arith),
-      lt-leb a 1407 (omega arith),
-      lt-leb a 1423 (omega arith),
-      ne-eqb a 1481 (omega arith),
-      le-leb 1504 a (omega arith),
-      lt-leb a 1519 h,
-    )
 
 -- An address other than the lone one of EC_EN lies on one side of it.
 pub sides : (a : ℕ) → (a ≡ 1481 → ⊥) → (a < 1481) ⊎ (1481 < a)

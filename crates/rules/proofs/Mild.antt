@@ -6,7 +6,7 @@ use mathlib.Core.List.{List}
 use native.Mathlib.Omega.{arith}
 use lib.Dec.{eqb, ltb}
 use lib.ListN.{length}
-use borrow.Author.Tests.{eqb-true, ne-eqb}
+use borrow.Author.Tests.{eqb-true, ne-eqb, ltb-true, not-true}
 use Rattle.memory.specs.Image.{bit, erasedWord}
 use Rattle.memory.proofs.Laws.{bit-written, bit-erased, length-written, length-erased}
 use Rattle.rules.specs.declared.Zone.{Zone}
@@ -19,8 +19,8 @@ use Rattle.rules.specs.Zones.{between, zone, row, isFuse}
 use Rattle.rules.specs.Rights.{Held, level1, granted, rights, mayRead, no}
 use Rattle.rules.specs.Programming.{barred, asks, mayProgram, effect, operation, memoryAfter, turns, opens}
 use Rattle.rules.specs.Demands.{hidden}
-use Rattle.rules.proofs.Tests.{beq-true, and-left, and-right}
-use Rattle.rules.proofs.ZoneCases.{placed, in-hidden}
+use Rattle.rules.proofs.Tests.{all, beq-true, and-left, and-right}
+use Rattle.rules.proofs.ZoneCases.{past-all, hidden-past, everywhere}
 
 is : Zone → Zone → Bool
 is z y = eqb (row z) (row y)
@@ -48,16 +48,14 @@ mild BlowMF z = false
 mild BlowECEN z = true
 mild BlowISS z = false
 
--- A test holds whatever its two Booleans.
-every : (Bool → Bool → Bool) → Bool
-every test = test true true && (test true false && (test false true && test false false))
+-- A test holds of both Booleans.
+every : (Bool → Bool) → Bool
+every test = test true && test false
 
-of-every : (test : Bool → Bool → Bool) → every test ≡ true → (a b : Bool) → test a b ≡ true
+of-every : (test : Bool → Bool) → every test ≡ true → (b : Bool) → test b ≡ true
 unfolding every
-of-every test e true true = and-left _ _ e
-of-every test e true false = and-left _ _ (and-right (test true true) _ e)
-of-every test e false true = and-left _ _ (and-right (test true false) _ (and-right (test true true) _ e))
-of-every test e false false = and-right (test false true) _ (and-right (test true false) _ (and-right (test true true) _ e))
+of-every test e true = and-left _ _ e
+of-every test e false = and-right (test true) _ e
 
 module _ (p1 r1 e1 mf : Bool) where
   -- What is there without SV.
@@ -75,9 +73,12 @@ module _ (p1 r1 e1 mf : Bool) where
       Bool·beq (granted (asked (fus && iss) latch bar z) (unopened r1 fus iss)) (allowed (fus && iss) latch z) &&
       (not (allowed (fus && iss) latch z) || mild (effect (fus && iss) latch z) z)
 
+  abbrev agrees-at : Zone → Bool → Bool → Bool
+  agrees-at z fus iss = reads z fus iss && every (λ latch. every (programs z fus iss latch))
+
   agrees : Zone → Bool
   unfolding every readable allowed rights granted mild effect
-  agrees z = every (reads z) && every (λ fus iss. every (programs z fus iss))
+  agrees z = every (λ fus. every (agrees-at z fus))
 
   agreed : (z : Zone) → agrees z ≡ true
   unfolding agrees
@@ -98,15 +99,17 @@ module _ (p1 r1 e1 mf : Bool) where
   agreed Gap = refl
 
   module _ (fus iss : Bool) (z : Zone) where
-    read-agrees : granted (rights (fus && iss) z .read) (unopened false fus iss) ≡ readable z
+    agreed-at : agrees-at z fus iss ≡ true
     unfolding agrees
-    read-agrees = beq-true _ _ (of-every (reads z) (and-left _ _ (agreed z)) fus iss)
+    agreed-at = of-every (agrees-at z fus) (of-every (λ f. every (agrees-at z f)) (agreed z) fus) iss
+
+    read-agrees : granted (rights (fus && iss) z .read) (unopened false fus iss) ≡ readable z
+    read-agrees = beq-true _ _ (and-left _ _ agreed-at)
 
     programs-agree : (latch bar : Bool) → programs z fus iss latch bar ≡ true
-    unfolding agrees
-    programs-agree =
-        of-every (programs z fus iss)
-        (of-every (λ f i. every (programs z f i)) (and-right (every (reads z)) _ (agreed z)) fus iss)
+    programs-agree latch =
+        of-every (programs z fus iss latch)
+        (of-every (λ l. every (programs z fus iss l)) (and-right (reads z fus iss) _ agreed-at) latch)
 
     program-agrees :
         (latch bar : Bool) → granted (asked (fus && iss) latch bar z) (unopened r1 fus iss) ≡ allowed (fus && iss) latch z
@@ -144,18 +147,17 @@ operation-mild h ec-en rst latch a e =
     rw (program-agrees (h .p1) (h .r1) (h .e1) (h .mf) (h .fus) (h .iss) (zone a) latch bar)
 
 pub readable-seen : (a : ℕ) → readable (zone a) ≡ true → hidden a ≡ false
-unfolding readable is
-readable-seen a e = go (hidden a) refl
-  where
-    not-at : (k : ℕ) → (ltb k 10 && not (eqb k 2 || (eqb k 5 || eqb k 6))) ≡ false → row (zone a) ≡ k → ⊥
-    not-at k n q = true≢false (sym (rw q at e) ∙ n)
+unfolding readable zone hidden all
+readable-seen a e =
+    not-true (hidden a)
+    (everywhere (λ b. readable (zone b)) (λ b. not (hidden b)) refl (λ b past _. ap not (hidden-past b (omega arith))) a e)
 
-    go : (t : Bool) → hidden a ≡ t → t ≡ false
-    go false h = refl
-    go true h =
-        absurd
-        (in-hidden ⊥ a h (λ l u. not-at 2 refl (placed a .sc l u)) (λ l u. not-at 5 refl (placed a .az l u))
-        (λ l u. not-at 6 refl (placed a .ez l u)))
+-- The MTZ is one word.
+mtz-word : (a : ℕ) → is (zone a) MTZ ≡ true → a / 16 ≡ 85
+unfolding is zone all
+mtz-word a e =
+    eqb-true (a / 16) 85
+    (everywhere (λ b. is (zone b) MTZ) (λ b. eqb (b / 16) 85) refl (λ b past q. absurd (false≢true (rw (← past-all b past) at q))) a e)
 
 chosen-mild : (t u : Bool) (op : Operation) (z : Zone) → (not u || mild op z) ≡ true → mild (cond (t && u) op Nothing) z ≡ true
 unfolding mild
@@ -175,10 +177,10 @@ mild-operation h ec-en rst latch a e =
 mild-cases :
     (P : Operation → Type 0) (a : ℕ) (op : Operation) → mild op (zone a) ≡ true → P Nothing → (hidden a ≡ false → P WriteBit) →
     (a / 16 ≡ 85 → P EraseWord) → P BlowECEN → P op
-unfolding mild is
+unfolding mild
 mild-cases P a Nothing e nothing writes erases blows = nothing
 mild-cases P a WriteBit e nothing writes erases blows = writes (readable-seen a e)
-mild-cases P a EraseWord e nothing writes erases blows = erases (placed a .mtz (eqb-true (row (zone a)) 8 e))
+mild-cases P a EraseWord e nothing writes erases blows = erases (mtz-word a e)
 mild-cases P a EraseZone e nothing writes erases blows = absurd (false≢true e)
 mild-cases P a WriteBlock e nothing writes erases blows = absurd (false≢true e)
 mild-cases P a EraseBlock e nothing writes erases blows = absurd (false≢true e)
@@ -187,7 +189,10 @@ mild-cases P a BlowECEN e nothing writes erases blows = blows
 mild-cases P a BlowISS e nothing writes erases blows = absurd (false≢true e)
 
 hidden-below : (b : ℕ) → hidden b ≡ true → b < 1360
-hidden-below b h = in-hidden (b < 1360) b h (omega arith) (omega arith) (omega arith)
+unfolding hidden between all
+hidden-below b h =
+    ltb-true b 1360
+    (everywhere hidden (λ a. ltb a 1360) refl (λ a past q. absurd (true≢false (sym q ∙ hidden-past a (omega arith)))) b h)
 
 -- The MTZ word's erase leaves what is below it.
 erased-above : (m : List ℕ) (a b : ℕ) → a / 16 ≡ 85 → b < 1360 → bit (erasedWord m a) b ≡ bit m b
