@@ -22,7 +22,8 @@ use Rattle.rules.specs.Steps.{follows, withVolatile, vccFalls, clkRises,
 use Rattle.rules.specs.Steps.{powered, next}
 use Rattle.rules.specs.Refusals.{edgeRefusal, refusal, anySet, madeUp, stateRefusal}
 use Rattle.rules.specs.Demands.{Sound-stays-sound}
-use Rattle.rules.proofs.Tests.{cond-cases, peel, neither, guarded, all, below-then, below₂, Moved, edge-rises, edge-falls}
+use Rattle.rules.proofs.ZoneCases.{addressed}
+use Rattle.rules.proofs.Tests.{cond-cases, peel, neither, guarded, all, below₂, Moved, edge-rises, edge-falls}
 
 -- Where match may hold, and E1.
 unfoldable pub mayMatch : ℕ → Bool
@@ -114,12 +115,6 @@ unfolding stateRefusal
 passes c s =
     cc (eq-eqb (length (c .memory)) bytes (s .sized), le-ltb 7 (c .fuses) (s .fused), unmade (c .volatile) (s .half))
 
--- With VCC on, 9 asks for no more than its clauses on lines and address.
-on-sound :
-    (v : Volatile) → v .lines < 64 → high VCC (v .lines) ≡ true → Wired (v .lines) (v .latch) (v .programming) →
-    Placed (v .address) (v .matched) (v .e1) → Sound v
-on-sound v l p w a = record { levels = l; unpowered = cc; wired = w; placed = a }
-
 -- Nothing is latched and no programming is under way, VCC or CLK being low.
 idle-wired : (n : ℕ) → (high VCC n ≡ true → high CLK n ≡ false) → Wired n false false
 idle-wired n e =
@@ -154,10 +149,6 @@ compared-or-kept :
 compared-or-kept true key x y matched may e f = refl
 compared-or-kept false true x y matched may e f = refl
 compared-or-kept false false x y matched may e f = f e
-
--- One computed test over the addresses: what p says of an address, q says too.
-addressed : (p q : ℕ → Bool) → all 1520 (λ a. not (p a) || q a) ≡ true → (a : ℕ) → a ≤ last → p a ≡ true → q a ≡ true
-addressed p q e a h = below-then 1520 p q e a (omega arith)
 
 -- An operation sets E1 only in EC.
 programmed-placed :
@@ -206,29 +197,22 @@ unfolding cleared
 cleared-le zero x = omega arith
 cleared-le (suc k) x = omega (arith, cleared-le k (x / 2))
 
-programmed-fused : (op : Operation) (f : ℕ) → f ≤ 7 → fusesAfter op f ≤ 7
-unfolding fusesAfter blown
-programmed-fused Nothing f h = h
-programmed-fused WriteBit f h = h
-programmed-fused EraseWord f h = h
-programmed-fused EraseZone f h = h
-programmed-fused WriteBlock f h = h
-programmed-fused EraseBlock f h = h
-programmed-fused BlowMF f h = omega (arith, cleared-le 0 f)
-programmed-fused BlowECEN f h = omega (arith, cleared-le 1 f)
-programmed-fused BlowISS f h = omega (arith, cleared-le 2 f)
+-- An operation keeps the image's length and the fuse byte's bound.
+record Lasting (op : Operation) (a : ℕ) (m : List ℕ) (f : ℕ) : Type 0 where
+  sized : length (memoryAfter op a m) ≡ length m
+  fused : fusesAfter op f ≤ 7
 
-programmed-sized : (op : Operation) (a : ℕ) (m : List ℕ) → length (memoryAfter op a m) ≡ length m
-unfolding memoryAfter
-programmed-sized Nothing a m = refl
-programmed-sized WriteBit a m = length-written m a
-programmed-sized EraseWord a m = length-erased m a
-programmed-sized EraseZone a m = length-filled 22 128 255 m
-programmed-sized WriteBlock a m = length-filled 2 168 0 m
-programmed-sized EraseBlock a m = length-filled 2 168 255 m
-programmed-sized BlowMF a m = refl
-programmed-sized BlowECEN a m = refl
-programmed-sized BlowISS a m = refl
+programmed-lasting : (op : Operation) (a : ℕ) (m : List ℕ) (f : ℕ) → f ≤ 7 → Lasting op a m f
+unfolding memoryAfter fusesAfter blown
+programmed-lasting Nothing a m f h = record { sized = refl; fused = h }
+programmed-lasting WriteBit a m f h = record { sized = length-written m a; fused = h }
+programmed-lasting EraseWord a m f h = record { sized = length-erased m a; fused = h }
+programmed-lasting EraseZone a m f h = record { sized = length-filled 22 128 255 m; fused = h }
+programmed-lasting WriteBlock a m f h = record { sized = length-filled 2 168 0 m; fused = h }
+programmed-lasting EraseBlock a m f h = record { sized = length-filled 2 168 255 m; fused = h }
+programmed-lasting BlowMF a m f h = record { sized = refl; fused = omega (arith, cleared-le 0 f) }
+programmed-lasting BlowECEN a m f h = record { sized = refl; fused = omega (arith, cleared-le 1 f) }
+programmed-lasting BlowISS a m f h = record { sized = refl; fused = omega (arith, cleared-le 2 f) }
 
 -- 7 keeps VCC down while CLK or PGM is high.
 unready : ℕ → ℕ → Bool
@@ -257,6 +241,12 @@ module _ (c : Card) (n : ℕ) (s : SoundCard c) (small : n < 64) where
   abbrev fell : (x : Line) → edge now n ≡ Falls x → Moved x true now n
   fell x e = edge-falls x now n (s .half .levels) small e
 
+  -- With VCC on, 9 asks for no more than its clauses on lines and address.
+  on-sound :
+      (w : Volatile) → w .lines ≡ n → high VCC n ≡ true → Wired n (w .latch) (w .programming) →
+      Placed (w .address) (w .matched) (w .e1) → SoundCard (withVolatile c w)
+  on-sound w l p wired placed = lasting w (record { levels = rw l small; unpowered = cc; wired = rw l wired; placed = placed })
+
   module _ (on : high VCC now ≡ true) where
     wired-kept :
         high VCC n ≡ true → high CLK n ≡ high CLK now → (high CLK n ≡ true → high PGM n ≡ true → high PGM now ≡ true) →
@@ -275,8 +265,7 @@ module _ (c : Card) (n : ℕ) (s : SoundCard c) (small : n < 64) where
     unfolding follows
     lines-follow x m p q pgm =
         let vcc : high VCC n ≡ true = m .others VCC p ∙ on in
-        lasting (follows n v)
-        (on-sound (follows n v) small vcc (wired-kept vcc (m .others CLK q) pgm) (s .half .placed))
+        on-sound (follows n v) refl vcc (wired-kept vcc (m .others CLK q) pgm) (s .half .placed)
 
     -- Nor does PGM.
     plain-follow :
@@ -294,44 +283,42 @@ module _ (c : Card) (n : ℕ) (s : SoundCard c) (small : n < 64) where
     clk-rises : Moved CLK false now n → SoundCard (withVolatile c (clkRises n v))
     unfolding clkRises place
     clk-rises m =
-        lasting (clkRises n v)
-        (on-sound (clkRises n v) small (m .others VCC refl ∙ on)
+        on-sound (clkRises n v) refl (m .others VCC refl ∙ on)
         (record { latched = λ q. m .after; under-way = λ q. m .after; started = λ x y z. z })
-        (s .half .placed))
+        (s .half .placed)
 
     rst-falls : Moved RST true now n → SoundCard (rstFalls n c)
     unfolding rstFalls place
     rst-falls m =
-        lasting (rstFalls n c .volatile)
-        (on-sound (rstFalls n c .volatile) small (m .others VCC refl ∙ on)
-        (wired-kept (m .others VCC refl ∙ on) (m .others CLK refl) (λ _ z. cc (m .others PGM refl)))
-        at-zero)
+        let vcc = m .others VCC refl ∙ on in
+        on-sound (rstFalls n c .volatile) refl vcc (wired-kept vcc (m .others CLK refl) (λ _ z. cc (m .others PGM refl))) at-zero
 
     module _ (m : Moved CLK true now n) where
-      -- A volatile half that CLK's fall leaves.
+      -- A card whose volatile half is left by CLK's fall.
       fallen :
-          (w : Volatile) → w .lines ≡ n → w .latch ≡ false → w .programming ≡ false → Placed (w .address) (w .matched) (w .e1) → Sound w
+          (w : Volatile) → w .lines ≡ n → w .latch ≡ false → w .programming ≡ false → Placed (w .address) (w .matched) (w .e1) →
+          SoundCard (withVolatile c w)
       unfolding place
-      fallen w l d u p = on-sound w (rw l small) (rw l (m .others VCC refl ∙ on)) (rw (l, d, u) (idle-wired n (λ _. m .after))) p
+      fallen w l d u p = on-sound w l (m .others VCC refl ∙ on) (rw (d, u) (idle-wired n (λ _. m .after))) p
 
       clk-falls-programming : (op : Operation) → SoundCard (programmed op n c)
       unfolding programmed
       clk-falls-programming op =
+          let kept = programmed-lasting op (v .address) (c .memory) (c .fuses) (s .fused) in
           record {
-            sized = programmed-sized op (v .address) (c .memory) ∙ s .sized;
-            fused = programmed-fused op (c .fuses) (s .fused);
+            sized = kept .sized ∙ s .sized;
+            fused = kept .fused;
             half =
                 fallen (programmed op n c .volatile) refl refl refl
-                (programmed-placed (v .address) (v .matched) (v .e1) _ (s .half .placed));
+                (programmed-placed (v .address) (v .matched) (v .e1) _ (s .half .placed)) .half;
           }
 
       clk-falls-clocked : SoundCard (clocked n c)
       unfolding clocked
       clk-falls-clocked =
-          lasting (clocked n c .volatile)
-          (fallen _ refl refl refl
+          fallen (clocked n c .volatile) refl refl refl
           (clocked-placed (v .address) (level1 (held (c .fuses) v)) (v .sv) (v .latch) (bit (c .memory) (v .address)) (v .matched) (v .e1)
-          (not (unblown EC-EN (c .fuses))) (s .half .placed)))
+          (not (unblown EC-EN (c .fuses))) (s .half .placed))
 
       clk-falls : SoundCard (clkFalls n c)
       unfolding clkFalls
@@ -339,8 +326,7 @@ module _ (c : Card) (n : ℕ) (s : SoundCard c) (small : n < 64) where
           cond-cases SoundCard (v .programming) (λ _. clk-falls-programming _)
           (λ _.
           cond-cases SoundCard (high RST now)
-          (λ _. lasting (unlatched n (v .matched) v) (fallen _ refl refl refl (s .half .placed)))
-          (λ _. clk-falls-clocked))
+          (λ _. fallen (unlatched n (v .matched) v) refl refl refl (s .half .placed)) (λ _. clk-falls-clocked))
 
     vcc-falls : Moved VCC true now n → SoundCard (vccFalls n c)
     unfolding vccFalls off anySet

@@ -65,14 +65,8 @@ moved-cond false w w′ n c = refl
 
 clk-fell : (n : ℕ) (c : Card) → clkFalls n c ≡ moved (clkFell (c .volatile .programming) (high RST (c .volatile .lines))) n c
 unfolding clkFalls clkFell moved
-clk-fell n c = go (c .volatile .programming) (high RST (c .volatile .lines))
-  where
-    go :
-        (programming rst : Bool) →
-        cond programming (moved Programs n c) (cond rst (moved Unlatches n c) (moved Clocks n c)) ≡ moved (clkFell programming rst) n c
-    go true rst = refl
-    go false true = refl
-    go false false = refl
+clk-fell n c =
+    rw (moved-cond (c .volatile .programming) Programs _ n c, moved-cond (high RST (c .volatile .lines)) Unlatches Clocks n c)
 
 powered-moves : (e : Edge) (n : ℕ) (c : Card) → powered e n c ≡ moved (poweredWay e (c .volatile .lines) (c .volatile .programming)) n c
 unfolding powered poweredWay moved
