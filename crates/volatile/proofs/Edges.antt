@@ -1,7 +1,6 @@
 -- The masks that the code puts on the word, as what the edges do to the flags.
-use Prim.Native.Nat.{ℕ, _%_, _≤_, _<_}
+use Prim.Native.Nat.{ℕ, _≤_, _<_}
 use native.Mathlib.Omega.{arith}
-use native.Mathlib.Nat.{mod-lt}
 use native.Mathlib.Decide.{ℕ-discrete}
 use mathlib.Core.Path.{_≡_, refl, sym, ap, _∙_}
 use mathlib.Core.Bool.{Bool, true, false, cond, not, _&&_, _||_, and-true, and-false, false≢true}
@@ -10,7 +9,7 @@ use lib.Dec.{eqb, leb}
 use lib.Bits.{bitAnd, bitOr}
 use borrow.Author.Tests.{ne-eqb, leb-true, lt-leb}
 use Rattle.memory.specs.Image.{digit, bit}
-use Rattle.memory.proofs.Below.{all, below, and-right}
+use Rattle.memory.proofs.Below.{all, and-right}
 use Rattle.rules.specs.Halves.{EC-EN, unblown}
 use Rattle.rules.specs.Lines.{high, place}
 use Rattle.rules.specs.Zones.{between}
@@ -18,7 +17,7 @@ use Rattle.rules.specs.Match.{arrived, endsMatch}
 use Rattle.rules.specs.Steps.{follows, clkRises, unlatched}
 use Rattle.volatile.specs.declared.Volatile.{Volatile}
 use Rattle.volatile.specs.Packed.{word, packed, unpacked, goneOn, programmedHalf, arrivalFlags, openingFlags}
-use Rattle.volatile.proofs.Packing.{OfFlags, at-digits, masked-flags, mask-low, digit-low}
+use Rattle.volatile.proofs.Packing.{OfFlags, at-digits, masked-flags}
 
 abbrev pub half : ℕ → ℕ → ℕ → Volatile
 half lines address flags = record { lines = lines; address = address; flags = flags }
@@ -65,15 +64,22 @@ module _ (v : Volatile) (n : ℕ) where
   pub rise-word : half n (v .address) (bitOr (bitAnd (v .flags) 103) (bitAnd n 24)) ≡ packed (clkRises n (unpacked v))
   unfolding packed clkRises unpacked all digit word high place
   rise-word =
-      ap (half n (v .address))
-      (ap (bitOr (bitAnd (v .flags) 103)) (mask-low 5 24 n (omega arith)) ∙
-      (masked-flags (λ (x : ℕ). bitOr x (bitAnd (n % 32) 24)) 103 (taken (n % 32)) (omega arith)
-      (below 32 (λ (z : ℕ). all 128 (λ (x : ℕ). eqb (bitOr (bitAnd x 103) (bitAnd z 24)) (at-digits (taken z) x))) refl (n % 32)
-      (mod-lt n (omega arith))) (v .flags) ∙
-      rw (digit-low 5 3 n (omega arith), digit-low 5 4 n (omega arith))))
+      ap (λ (x : ℕ). half n (v .address) (bitOr (bitAnd (v .flags) 103) x))
+      (masked-flags (λ (x : ℕ). x) 24 (λ sv p1 r1 programming latch e1 matched. word false false false programming latch false false)
+      (omega arith) refl n) ∙
+      takes (digit 3 n) (digit 4 n)
     where
-      taken : ℕ → OfFlags
-      taken z sv p1 r1 programming latch = word sv p1 r1 (digit 3 z) (digit 4 z)
+      taken : Bool → Bool → OfFlags
+      taken p l sv p1 r1 programming latch = word sv p1 r1 p l
+
+      takes :
+          (p l : Bool) →
+          half n (v .address) (bitOr (bitAnd (v .flags) 103) (word false false false p l false false)) ≡
+          half n (v .address) (at-digits (taken p l) (v .flags))
+      takes true true = masked-half v n (v .address) (λ (x : ℕ). bitOr x 24) 103 (taken true true) (omega arith) refl
+      takes true false = masked-half v n (v .address) (λ (x : ℕ). bitOr x 8) 103 (taken true false) (omega arith) refl
+      takes false true = masked-half v n (v .address) (λ (x : ℕ). bitOr x 16) 103 (taken false true) (omega arith) refl
+      takes false false = masked-half v n (v .address) (λ (x : ℕ). bitOr x 0) 103 (taken false false) (omega arith) refl
 
 -- Arriving.
 module _ (m : List ℕ) (fuses : ℕ) (v : Volatile) where
