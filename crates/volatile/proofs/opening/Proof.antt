@@ -22,43 +22,43 @@ returns-2 c =
 returns-3 : tie.Need-returns-3
 unfolding openingFlags
 returns-3 c =
-    let turned = c .before .before in
-    let start = turned .before .args in
-    rw (within 96 103 (start .a) (omega arith) (omega arith), not-false (start .keyed) (turned .if1 .left))
+    let from-96 = c .before in
+    let turned = from-96 .before in
+    rw (within 96 103 _ (from-96 .if2 .left) (c .if3 .taken), not-false (turned .before .args .keyed) (turned .if1 .left))
 
 returns-4 : tie.Need-returns-4
 unfolding openingFlags
-returns-4 c =
-    let a = c .before .before .before .before .args .a in
-    rw (over 96 103 a (omega arith), under 1232 1359 a (c .if4 .taken))
+returns-4 c = rw (over 96 103 _ (c .before .if3 .left), under 1232 1359 _ (c .if4 .taken))
 
 returns-5 : tie.Need-returns-5
 unfolding openingFlags
-returns-5 c =
-    let a = c .before .before .before .before .before .args .a in
-    rw (over 96 103 a (omega arith), over 1232 1359 a (c .if5 .taken))
+returns-5 c = rw (over 96 103 _ (c .before .before .if3 .left), over 1232 1359 _ (c .if5 .taken))
 
 returns-6 : tie.Need-returns-6
 unfolding openingFlags
 returns-6 c =
-    let turned = c .before .before .before .before .before in
-    let start = turned .before .args in
+    let to-1359 = c .before in
+    let from-1232 = to-1359 .before in
+    let past-103 = from-1232 .before in
+    let turned = past-103 .before .before in
     rw (
-      over 96 103 (start .a) (omega arith),
-      within 1232 1359 (start .a) (omega arith) (omega arith),
-      not-false (start .keyed) (turned .if1 .left),
+      over 96 103 _ (past-103 .if3 .left),
+      within 1232 1359 _ (from-1232 .if4 .left) (to-1359 .if5 .left),
+      not-false (turned .before .args .keyed) (turned .if1 .left),
       c .if6 .taken,
     )
 
 returns-7 : tie.Need-returns-7
 unfolding openingFlags
 returns-7 c =
-    let turned = c .before .before .before .before .before in
-    let start = turned .before .args in
+    let to-1359 = c .before in
+    let from-1232 = to-1359 .before in
+    let past-103 = from-1232 .before in
+    let turned = past-103 .before .before in
     rw (
-      over 96 103 (start .a) (omega arith),
-      within 1232 1359 (start .a) (omega arith) (omega arith),
-      not-false (start .keyed) (turned .if1 .left),
+      over 96 103 _ (past-103 .if3 .left),
+      within 1232 1359 _ (from-1232 .if4 .left) (to-1359 .if5 .left),
+      not-false (turned .before .args .keyed) (turned .if1 .left),
       c .if6 .left,
     )
 
