@@ -29,22 +29,40 @@ unopened-tail : (c : Card) (n : ℕ) (ns : List ℕ) → refusal (c .volatile) n
 unfolding run
 unopened-tail c n ns e u k = rw e at (u (suc k))
 
+-- Of one card that was s at the start.
+record Held-back (s c : Card) : Type 0 where
+  passes : Passes c
+  closed : Closed s c
+
+module _ (s : Card) (start : Concealed s) where
+  -- "switched off with all lines low"
+  first-held : Held-back s s
+  unfolding fresh off
+  first-held =
+      record {
+        passes = fresh-passes s (start .sized) (start .fused) (start .off);
+        closed = record { unread = rw (start .off); zones = λ a h. refl };
+      }
+
+  held-on : (c : Card) (n : ℕ) → Unopened-card c → Held-back s c → Held-back s (stepped c n)
+  held-on c n shut p =
+      record {
+        passes = passes-on c n (p .passes);
+        closed = step-cases (Closed s) c n (closed-moved s (start .unreadable) c n shut (p .closed) (way (c .volatile) n));
+      }
+
 module _ (s s′ : Card) (start : Alike s s′) where
   record Two (c c′ : Card) : Type 0 where
-    passes : Passes c
-    passes′ : Passes c′
-    closed : Closed s c
-    closed′ : Closed s′ c′
+    one : Held-back s c
+    other : Held-back s′ c′
     alike : Alike-cards c c′
 
   two-stepped :
       (c c′ : Card) (n : ℕ) → Unopened-card c → Unopened-card c′ → Two c c′ → Two (stepped c n) (stepped c′ n)
   two-stepped c c′ n shut shut′ p =
       record {
-        passes = passes-on c n (p .passes);
-        passes′ = passes-on c′ n (p .passes′);
-        closed = step-cases (Closed s) c n (closed-moved s (start .concealed .unreadable) c n shut (p .closed) (way (c .volatile) n));
-        closed′ = step-cases (Closed s′) c′ n (closed-moved s′ (start .concealed′ .unreadable) c′ n shut′ (p .closed′) (way (c′ .volatile) n));
+        one = held-on s (start .concealed) c n shut (p .one);
+        other = held-on s′ (start .concealed′) c′ n shut′ (p .other);
         alike =
             step-cases (λ (x : Card). Alike-cards x (stepped c′ n)) c n
             (step-cases (λ (x : Card). Alike-cards (moved w n c) x) c′ n
@@ -71,7 +89,7 @@ module _ (s s′ : Card) (start : Alike s s′) where
         pin (next c n) ≡ pin (next c′ n)
     next-pins shut shut′ e later later′ =
         let q = next-two shut shut′ e in
-        same-pin (next c n) (next c′ n) later later′ (q .closed .unread) (q .closed′ .unread) (q .alike)
+        same-pin (next c n) (next c′ n) later later′ (q .one .closed .unread) (q .other .closed .unread) (q .alike)
 
     same-answer :
         Unopened-card c → Unopened-card c′ → Unopened-card (stepped c n) → Unopened-card (stepped c′ n) → answered c n ≡ answered c′ n
@@ -91,17 +109,17 @@ module _ (s s′ : Card) (start : Alike s s′) where
 
   indistinct : (c c′ : Card) (ns : List ℕ) → Two c c′ → Unopened c ns → Unopened c′ ns → Indistinct c c′ ns
   unfolding Unopened answers after
-  indistinct c c′ [] p u u′ = record { same = refl; kept = p .closed .zones; kept′ = p .closed′ .zones }
+  indistinct c c′ [] p u u′ = record { same = refl; kept = p .one .closed .zones; kept′ = p .other .closed .zones }
   indistinct c c′ (n ∷ ns) p u u′ =
-      let one = checked-step c n (p .passes) in
-      let one′ = checked-step c′ n (p .passes′) in
+      let one = checked-step c n (p .one .passes) in
+      let one′ = checked-step c′ n (p .other .passes) in
       let two = rw (← one, ← one′) at (two-stepped c c′ n (u 0) (u′ 0) p) in
       let rest = indistinct (checkedStep c n) (checkedStep c′ n) ns two (λ k. u (suc k)) (λ k. u′ (suc k)) in
       record {
         same =
             cc (
-              checked-answer c n (p .passes),
-              checked-answer c′ n (p .passes′),
+              checked-answer c n (p .one .passes),
+              checked-answer c′ n (p .other .passes),
               same-answer c c′ n p (u 0) (u′ 0) (rw one at (u 1)) (rw one′ at (u′ 1)),
               rest .same,
             );
@@ -117,7 +135,7 @@ module _ (s s′ : Card) (start : Alike s s′) where
 
   indistinct-runs : (c c′ : Card) (ns : List ℕ) → Two c c′ → Unopened-in c ns → Unopened-in c′ ns → Indistinct-runs (run c ns) (run c′ ns)
   unfolding run
-  indistinct-runs c c′ [] p u u′ = record { same = refl; refused = refl; kept = p .closed .zones; kept′ = p .closed′ .zones }
+  indistinct-runs c c′ [] p u u′ = record { same = refl; refused = refl; kept = p .one .closed .zones; kept′ = p .other .closed .zones }
   indistinct-runs c c′ (n ∷ ns) p u u′ =
       rw (← (refused-alike c c′ n p))
       (cond-both Indistinct-runs (eqb (refusal (c .volatile) n) 0)
@@ -132,34 +150,27 @@ module _ (s s′ : Card) (start : Alike s s′) where
         kept = rest .kept;
         kept′ = rest .kept′;
       })
-      (λ _. record { same = refl; refused = refl; kept = p .closed .zones; kept′ = p .closed′ .zones }))
+      (λ _. record { same = refl; refused = refl; kept = p .one .closed .zones; kept′ = p .other .closed .zones }))
 
-  -- "switched off with all lines low"
   first-two : Two s s′
-  unfolding fresh off
   first-two =
       record {
-        passes = fresh-passes s (one .sized) (one .fused) (one .off);
-        passes′ = fresh-passes s′ (other .sized) (other .fused) (other .off);
-        closed = record { unread = rw (one .off); zones = λ a h. refl };
-        closed′ = record { unread = rw (other .off); zones = λ a h. refl };
+        one = first-held s (start .concealed);
+        other = first-held s′ (start .concealed′);
         alike =
             record {
-              lines = cc (one .off, other .off);
-              address = cc (one .off, other .off);
-              latch = cc (one .off, other .off);
-              programming = cc (one .off, other .off);
+              lines = cc off;
+              address = cc off;
+              latch = cc off;
+              programming = cc off;
               fuses = start .fuses;
-              sized = one .sized ∙ sym (other .sized);
+              sized = start .concealed .sized ∙ sym (start .concealed′ .sized);
               outside = start .outside;
             };
       }
     where
-      one : Concealed s
-      one = start .concealed
-
-      other : Concealed s′
-      other = start .concealed′
+      off : s .volatile ≡ s′ .volatile
+      off = start .concealed .off ∙ sym (start .concealed′ .off)
 
 pub hidden-before-opening : Hidden-before-opening
 hidden-before-opening c c′ ns start u u′ =
@@ -200,7 +211,7 @@ hidden-in-a-run c c′ ns room start u u′ =
     two = first-two c c′ start
 
     alike : runRefusal c (length ns) room ≡ runRefusal c′ (length ns) room
-    alike = passed-run c (length ns) room (two .passes) ∙ sym (passed-run c′ (length ns) room (two .passes′))
+    alike = passed-run c (length ns) room (two .one .passes) ∙ sym (passed-run c′ (length ns) room (two .other .passes))
 
     all : Indistinct-runs c c′ start (checkedRun c ns room) (checkedRun c′ ns room)
     all =
