@@ -32,7 +32,8 @@ pub halves : (b : Bool) (y : ℕ) → (one b + 2 * y) / 2 ≡ y
 halves true y = omega arith
 halves false y = omega arith
 
-pub digit-rest : (b : Bool) (k y : ℕ) → digit (suc k) (one b + 2 * y) ≡ digit k y
+-- Digit k + 1 is digit k of what the lowest one is put on.
+digit-rest : (b : Bool) (k y : ℕ) → digit (suc k) (one b + 2 * y) ≡ digit k y
 unfolding digit
 digit-rest b k y = rw (halves b y)
 
@@ -40,10 +41,6 @@ pub last-digit : (b : Bool) → digit zero (one b) ≡ b
 unfolding digit
 last-digit true = refl
 last-digit false = refl
-
--- Digit k + 1 of a number that is put together, from digit k of what it is put on.
-pub digit-next : (b : Bool) (k y : ℕ) (t : Bool) → digit k y ≡ t → digit (suc k) (one b + 2 * y) ≡ t
-digit-next b k y t e = digit-rest b k y ∙ e
 
 module _ (sv p1 r1 programming latch e1 matched : Bool) where
   abbrev w6 : ℕ
@@ -64,24 +61,23 @@ module _ (sv p1 r1 programming latch e1 matched : Bool) where
   abbrev w1 : ℕ
   w1 = one p1 + 2 * w2
 
-  -- From the place k of the word on: the digits before it are put on one by one.
-  after-3 : (k : ℕ) (t : Bool) → digit k w3 ≡ t → digit (suc (suc (suc k))) (one sv + 2 * w1) ≡ t
-  after-3 k t e = digit-next sv (suc (suc k)) w1 t (digit-next p1 (suc k) w2 t (digit-next r1 k w3 t e))
+  -- Past the first three digits.
+  after-3 : (k : ℕ) → digit (suc (suc (suc k))) (one sv + 2 * w1) ≡ digit k w3
+  after-3 k = digit-rest sv (suc (suc k)) w1 ∙ (digit-rest p1 (suc k) w2 ∙ digit-rest r1 k w3)
 
-  pub digits-of-word :
-      (digit 0 (word sv p1 r1 programming latch e1 matched) ≡ sv) × (digit 1 (word sv p1 r1 programming latch e1 matched) ≡ p1) ×
-      (digit 2 (word sv p1 r1 programming latch e1 matched) ≡ r1) × (digit 3 (word sv p1 r1 programming latch e1 matched) ≡ programming) ×
-      (digit 4 (word sv p1 r1 programming latch e1 matched) ≡ latch) × (digit 5 (word sv p1 r1 programming latch e1 matched) ≡ e1) ×
-      (digit 6 (word sv p1 r1 programming latch e1 matched) ≡ matched)
+  digits-of-word :
+      let w = word sv p1 r1 programming latch e1 matched in
+      (digit 0 w ≡ sv) × (digit 1 w ≡ p1) × (digit 2 w ≡ r1) × (digit 3 w ≡ programming) × (digit 4 w ≡ latch) × (digit 5 w ≡ e1) ×
+      (digit 6 w ≡ matched)
   unfolding word
   digits-of-word = (
     digit-one sv w1,
-    digit-next sv 0 w1 p1 (digit-one p1 w2),
-    digit-next sv 1 w1 r1 (digit-next p1 0 w2 r1 (digit-one r1 w3)),
-    after-3 0 programming (digit-one programming w4),
-    after-3 1 latch (digit-next programming 0 w4 latch (digit-one latch w5)),
-    after-3 2 e1 (digit-next programming 1 w4 e1 (digit-next latch 0 w5 e1 (digit-one e1 w6))),
-    after-3 3 matched (digit-next programming 2 w4 matched (digit-next latch 1 w5 matched (digit-next e1 0 w6 matched (last-digit matched)))),
+    digit-rest sv 0 w1 ∙ digit-one p1 w2,
+    digit-rest sv 1 w1 ∙ (digit-rest p1 0 w2 ∙ digit-one r1 w3),
+    after-3 0 ∙ digit-one programming w4,
+    after-3 1 ∙ (digit-rest programming 0 w4 ∙ digit-one latch w5),
+    after-3 2 ∙ (digit-rest programming 1 w4 ∙ (digit-rest latch 0 w5 ∙ digit-one e1 w6)),
+    after-3 3 ∙ (digit-rest programming 2 w4 ∙ (digit-rest latch 1 w5 ∙ (digit-rest e1 0 w6 ∙ last-digit matched))),
   )
 
 pub unpacked-packed : (v : Halves.Volatile) → unpacked (packed v) ≡ v

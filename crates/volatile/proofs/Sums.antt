@@ -111,13 +111,11 @@ pub granted-mask : (asked : ℕ) → asked < 256 → (h : Held) → eqb (bitAnd 
 unfolding lackingOf granted digit
 granted-mask asked small h =
     masks-apart 8 asked (lackingOf h) small ∙
-    (peeled 7 asked _ false _
-    (peeled 6 (asked / 2) _ (h .sv) _
-    (peeled 5 (asked / 2 / 2) _ (h .p1) _
-    (peeled 4 (asked / 2 / 2 / 2) _ (h .e1) _
-    (peeled 3 (asked / 2 / 2 / 2 / 2) _ (h .mf) _
-    (peeled 2 (asked / 2 / 2 / 2 / 2 / 2) _ (h .iss) _
-    (peeled 1 (asked / 2 / 2 / 2 / 2 / 2 / 2) _ (h .fus) _ (peeled-last (asked / 2 / 2 / 2 / 2 / 2 / 2 / 2) (h .sv || h .r1)))))))) ∙
+    (peeled 7 _ _ false _
+    (peeled 6 _ _ (h .sv) _
+    (peeled 5 _ _ (h .p1) _
+    (peeled 4 _ _ (h .e1) _
+    (peeled 3 _ _ (h .mf) _ (peeled 2 _ _ (h .iss) _ (peeled 1 _ _ (h .fus) _ (peeled-last _ (h .sv || h .r1)))))))) ∙
     never-met (digit 0 asked) _)
 
 -- The tests of the state check after the first, as the code puts them together.
