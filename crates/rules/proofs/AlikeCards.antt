@@ -17,8 +17,8 @@ use Rattle.rules.specs.Demands.{hidden, ZonesKept}
 use Rattle.rules.proofs.Tests.{and-right}
 use Rattle.rules.proofs.StepCases.{Way, Keeps, Follows, Latches, SwitchesOff, Resets, Programs, Unlatches, Clocks}
 use Rattle.rules.proofs.StepCases.{moved, operationOf}
-use Rattle.rules.proofs.Mild.{readable, mildOperation, readable-seen, mayRead-readable, operation-mild, mild-length, mild-keeps-hidden}
-use Rattle.rules.proofs.Mild.{mild-keeps-equal}
+use Rattle.rules.proofs.Mild.{readable, readable-seen, mayRead-readable}
+use Rattle.rules.proofs.Mild.{mildOperation, operation-mild, mild-length, mild-keeps-hidden, mild-keeps-equal}
 
 -- Of a card that was s at the start: R1 is 0, and the three zones hold what they held.
 pub record Closed (s c : Card) : Type 0 where

@@ -29,7 +29,7 @@ stored-match : (m : List ℕ) (n a : ℕ) → shownMatch m a (bitsFrom m a n) tr
 unfolding shownMatch codeMatch bitsFrom between
 stored-match m zero a = refl
 stored-match m (suc n) a =
-    ap (λ (t : Bool). shownMatch m (a + 1) (bitsFrom m (a + 1) n) t) (same (between 80 95 a) (bit m a) (eqb a 80)) ∙ stored-match m n (a + 1)
+    ap (shownMatch m (a + 1) (bitsFrom m (a + 1) n)) (same (between 80 95 a) (bit m a) (eqb a 80)) ∙ stored-match m n (a + 1)
   where
     same : (inside b first : Bool) → cond inside (Bool·beq b b && (first || true)) true ≡ true
     same false b first = refl

@@ -137,27 +137,19 @@ wrong-code-spends-one-try fus code c i left wrong =
     }
 
 -- With room for the steps and their answers, the maker gives them and none of 10, 14, 9, 18 and 19 comes.
-module _ (fus : Bool) (code : ℕ) (c : Card) (left : firstTry c < 104) (room : ℕ) (enough : 223 + 2 * zerosBefore 8 (attempts c) ≤ room) where
-  makes-opening : actRefusal (openRefusal (attempts c)) (open-card fus code (attempts c)) room ≡ 0
-  unfolding actRefusal openRefusal
-  makes-opening =
-      rw (
-        ne-eqb (zerosBefore 8 (attempts c)) 8 (omega arith),
-        length-open fus code (attempts c),
-        le-ltb room (223 + 2 * zerosBefore 8 (attempts c)) enough,
-      )
-
-  runs-opening : Idle fus c → checkedRun c (open-card fus code (attempts c)) room ≡ shown fus code c
-  unfolding checkedRun runRefusal stateRefusal
-  runs-opening i =
+pub opens-as-made : Opens-as-made
+unfolding actRefusal openRefusal checkedRun runRefusal stateRefusal
+opens-as-made fus code c room i left enough =
+    let k = zerosBefore 8 (attempts c) in
+    let steps = length-open fus code (attempts c) in
+    let fits = le-ltb room (223 + 2 * k) enough in (
+      rw (ne-eqb k 8 (omega arith), steps, fits),
       rw (
         eq-eqb (length (c .memory)) 174 (i .sized),
         le-ltb 7 (c .fuses) (i .fused),
         i .sound,
-        length-open fus code (attempts c),
-        le-ltb 4096 (223 + 2 * zerosBefore 8 (attempts c)) (omega arith),
-        le-ltb room (223 + 2 * zerosBefore 8 (attempts c)) enough,
-      )
-
-pub opens-as-made : Opens-as-made
-opens-as-made fus code c room i left enough = (makes-opening fus code c left room enough, runs-opening fus code c left room enough i)
+        steps,
+        le-ltb 4096 (223 + 2 * k) (omega arith),
+        fits,
+      ),
+    )

@@ -88,7 +88,8 @@ unmade v s =
       le-ltb last (v .address) (p .within),
       guarded (v .latch) (not (high CLK l)) (λ q. ap not (w .latched q)),
       guarded (v .programming) (not (high CLK l)) (λ q. ap not (w .under-way q)),
-      guarded (high VCC l) _ (λ x. guarded (high CLK l) _ (λ y. guarded (high PGM l) (not (v .programming)) (λ z. ap not (w .started x y z)))),
+      guarded (high VCC l) _
+          (λ x. guarded (high CLK l) _ (λ y. guarded (high PGM l) (not (v .programming)) (λ z. ap not (w .started x y z)))),
       guarded (v .matched) (not (mayMatch (v .address))) (λ q. ap not (p .matching q)),
       guarded (v .e1) (not (mayE1 (v .address))) (λ q. ap not (p .e1-held q)),
     )
@@ -180,8 +181,8 @@ clocked-placed a l1 sv latch stored matched e1 x p =
           λ q.
           ended-or-kept (endsMatch b) k (mayMatch b) q
           (λ h.
-          addressed (λ o. between 80 95 o || (between 1200 1231 o || mayMatch o)) (λ o. endsMatch (following o) || mayMatch (following o)) refl
-          a (p .within)
+          addressed (λ o. between 80 95 o || (between 1200 1231 o || mayMatch o))
+          (λ o. endsMatch (following o) || mayMatch (following o)) refl a (p .within)
           (compared-or-kept (between 80 95 a) (between 1200 1231 a) _ _ matched (mayMatch a) h (p .matching)));
       e1-held =
           λ q.

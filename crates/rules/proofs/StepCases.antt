@@ -9,7 +9,8 @@ use Rattle.rules.specs.declared.Operation.{Operation}
 use Rattle.rules.specs.Halves.{Volatile, Card}
 use Rattle.rules.specs.Lines.{VCC, RST, CLK, PGM, IO, FUS, high, Edge, Same, Rises, Falls, Many, edge}
 use Rattle.rules.specs.Programming.{operationNow}
-use Rattle.rules.specs.Steps.{follows, withVolatile, vccFalls, clkRises, rstFalls, programmed, unlatched, clocked, clkFalls, powered, next}
+use Rattle.rules.specs.Steps.{follows, withVolatile, vccFalls, clkRises, rstFalls, programmed, unlatched, clocked, clkFalls}
+use Rattle.rules.specs.Steps.{powered, next}
 use Rattle.rules.specs.Refusals.{refusal, stateRefusal}
 use Rattle.rules.specs.Card.{Ran, stepped, checkedStep, run}
 use Rattle.rules.specs.Demands.{after}
