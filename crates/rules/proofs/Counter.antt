@@ -22,6 +22,7 @@ use Rattle.rules.specs.Lines.{CLK, mask}
 use Rattle.rules.specs.Steps.{programmed}
 use Rattle.rules.specs.Maker.{zerosBefore, io, idle, program}
 use Rattle.rules.specs.Computing.{the-card}
+use Rattle.rules.proofs.Between.{within, under}
 use Rattle.rules.proofs.Macros.{Leads, then, ready, on, programs}
 
 zone-SCAC : (a : ℕ) → 96 ≤ a → a ≤ 111 → zone a ≡ SCAC
@@ -45,19 +46,15 @@ operation-SCAC : (h : Held) (ec-en d : Bool) (a : ℕ) → 96 ≤ a → a ≤ 11
 unfolding operation mayProgram act
 operation-SCAC h ec-en d a low high = rw (zone-SCAC a low high, granted-SCAC (level1 h) ec-en d a h)
 
-a-try : (a : ℕ) → 96 ≤ a → a ≤ 103 → between 96 103 a ≡ true
-unfolding between
-a-try a low high = rw (le-leb 96 a low, le-leb a 103 high)
-
 module _ (fuses : ℕ) (p1 r1 : Bool) where
   takes-effect : (n levels : ℕ) (d : Bool) (m : List ℕ) (a : ℕ) (sv matched : Bool) → 96 ≤ a → a ≤ 103 →
       programmed (act d sv) n (on fuses p1 r1 levels d true m a sv false matched) ≡
       on fuses p1 r1 n false false (memoryAfter (act d sv) a m) a (opens (act d sv) m a matched || sv) false matched
-  unfolding act programmed keyOpens between
-  takes-effect n levels true m a true matched low high = rw (lt-leb 1232 a (omega arith))
-  takes-effect n levels true m a false matched low high = rw (lt-leb 1232 a (omega arith))
-  takes-effect n levels false m a true matched low high = rw (lt-leb 1232 a (omega arith))
-  takes-effect n levels false m a false matched low high = rw (lt-leb 1232 a (omega arith))
+  unfolding act programmed keyOpens
+  takes-effect n levels true m a true matched low high = rw (under 1232 1359 a (omega arith))
+  takes-effect n levels true m a false matched low high = rw (under 1232 1359 a (omega arith))
+  takes-effect n levels false m a true matched low high = rw (under 1232 1359 a (omega arith))
+  takes-effect n levels false m a false matched low high = rw (under 1232 1359 a (omega arith))
 
   -- "program d" at a try.
   programs-counter : (fus d : Bool) (m : List ℕ) (a : ℕ) (sv matched : Bool) → 96 ≤ a → a ≤ 103 →
@@ -77,15 +74,15 @@ module _ (fuses : ℕ) (p1 r1 : Bool) where
   pub uses-try : (fus : Bool) (m : List ℕ) (a : ℕ) (matched : Bool) → 96 ≤ a → a ≤ 103 → bit m a ≡ true →
       Leads (ready fuses p1 r1 fus true m a false matched) (program fus false ++ program fus true)
       (ready fuses p1 r1 fus true (cond matched (erasedWord (written m a) a) (written m a)) a matched matched)
-  unfolding act opens memoryAfter turns between
+  unfolding act opens memoryAfter turns
   uses-try fus m a true low high there =
       then
-      (rw (a-try a low high, there) at (programs-counter fus false m a false true low high))
-      (rw (a-try a low high) at (programs-counter fus true (written m a) a true true low high))
+      (rw (within 96 103 a low high, there) at (programs-counter fus false m a false true low high))
+      (rw (within 96 103 a low high) at (programs-counter fus true (written m a) a true true low high))
   uses-try fus m a false low high there =
       then
-      (rw (a-try a low high) at (programs-counter fus false m a false false low high))
-      (rw (a-try a low high) at (programs-counter fus true (written m a) a false false low high))
+      (rw (within 96 103 a low high) at (programs-counter fus false m a false false low high))
+      (rw (within 96 103 a low high) at (programs-counter fus true (written m a) a false false low high))
 
 -- "the number of zeros before the first one": there the digit is a one.
 first-one : (width x : ℕ) → zerosBefore width x < width → digit (width - 1 - zerosBefore width x) x ≡ true

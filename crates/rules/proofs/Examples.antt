@@ -22,7 +22,7 @@ use Rattle.rules.proofs.Tests.{all, below, below-then, and-left, and-ri
 use Rattle.rules.proofs.Soundness.{sound-stays-sound}
 use Rattle.rules.proofs.CheckedSteps.{Passes, checked-step}
 use Rattle.rules.proofs.StepCases.{accepted}
-use Rattle.rules.proofs.ZoneCases.{within}
+use Rattle.rules.proofs.Between.{bounds}
 
 -- An image of ones but for both bytes of the code, the attempts, the first byte of the application zone, and the first of the erase key.
 abbrev image : ℕ → ℕ → ℕ → ℕ → List ℕ
@@ -165,7 +165,7 @@ spent : (a : ℕ) → between 96 103 a ≡ true → bit (dead .memory) a ≡ fal
 unfolding the-card all
 spent a h =
     not-true (bit (dead .memory) a)
-    (below-then 104 (between 96 103) (λ (b : ℕ). not (bit (dead .memory) b)) refl a (omega (arith, within 96 103 a h)) h)
+    (below-then 104 (between 96 103) (λ (b : ℕ). not (bit (dead .memory) b)) refl a (omega (arith, bounds 96 103 a h)) h)
 
 pub dead-card-moves : Dead-card-moves
 unfolding the-card reset walk show program after bitsFrom

@@ -10,6 +10,7 @@ pub mod Opening
 pub mod OpeningExamples
 pub mod MakerLaws
 pub mod StepCases
+pub mod Between
 pub mod ZoneCases
 pub mod Mild
 pub mod Shut

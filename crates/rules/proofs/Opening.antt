@@ -3,11 +3,10 @@
 use Prim.Native.Nat.{ℕ, _+_, _*_, _≤_, _<_}
 use native.Mathlib.Omega.{arith}
 use mathlib.Core.Path.{_≡_, refl, sym, ap, _∙_}
-use mathlib.Core.Bool.{Bool, true, false, cond, and-false, or-true}
+use mathlib.Core.Bool.{Bool, true, false, cond, or-true}
 use mathlib.Core.List.{_++_}
-use lib.Dec.{leb}
 use lib.ListN.{length}
-use borrow.Author.Tests.{lt-leb, le-ltb, ne-eqb, eq-eqb}
+use borrow.Author.Tests.{le-ltb, ne-eqb, eq-eqb}
 use Rattle.memory.specs.Image.{digit, written, erasedWord}
 use Rattle.memory.proofs.Laws.{bit-written}
 use Rattle.rules.specs.Halves.{Volatile, Card}
@@ -18,7 +17,7 @@ use Rattle.rules.specs.Card.{checkedRun}
 use Rattle.rules.specs.Maker.{idle, reset, walk, digits, showBits, program, zerosBefore, open-card, actRefusal, openRefusal}
 use Rattle.rules.specs.Demands.{Idle, attempts, firstTry, shown}
 use Rattle.rules.specs.Demands.{Try-is-found, Right-code-opens, Wrong-code-spends-one-try, Opens-as-made}
-use Rattle.rules.proofs.ZoneCases.{within}
+use Rattle.rules.proofs.Between.{bounds, under, over}
 use Rattle.rules.proofs.CodeMatch.{shownMatch, right-matches, wrong-fails}
 use Rattle.rules.proofs.MakerLaws.{length-open}
 use Rattle.rules.proofs.Macros.{Leads, then, Reaches, leads-run, on, ready, resets, walks, shows}
@@ -79,7 +78,7 @@ opening-steps : (fus : Bool) (code : ℕ) (c : Card) → Idle fus c → firstTry
     (walk fus 80 ++
     (showBits fus (digits 16 code) ++ (walk fus (zerosBefore 8 (attempts c)) ++ (program fus false ++ program fus true)))))
     (used fus (shownMatch (c .memory) 80 (digits 16 code) false) c)
-unfolding digits between
+unfolding digits
 opening-steps fus code c i left =
     let m = c .memory in
     let v = c .volatile in
@@ -88,8 +87,8 @@ opening-steps fus code c i left =
     let r1 = v .r1 in
     let k = zerosBefore 8 (attempts c) in
     let matched = shownMatch m 80 (digits 16 code) false in
-    let before : (x : ℕ) → 0 ≤ x → x < 80 → between 80 95 x ≡ false = λ x low high. rw (lt-leb 80 x high) in
-    let after : (x : ℕ) → 96 ≤ x → x < 96 + k → between 80 95 x ≡ false = λ x low high. rw (lt-leb x 95 low, and-false (leb 80 x)) in
+    let before : (x : ℕ) → 0 ≤ x → x < 80 → between 80 95 x ≡ false = λ x _ high. under 80 95 x high in
+    let after : (x : ℕ) → 96 ≤ x → x < 96 + k → between 80 95 x ≡ false = λ x low _. over 80 95 x low in
     rw (idle-card fus c i)
     (then (resets f p1 r1 fus m (v .address) false (v .e1) (v .matched))
     (then (walks f p1 r1 fus m 80 0 false (omega arith) before)
@@ -103,7 +102,7 @@ unfolding open-card
 reaches fus code c i left = leads-run (opening-steps fus code c i left)
 
 pub try-is-found : Try-is-found
-try-is-found c a inside one = let w = within 96 103 a inside in try-there (c .memory) a (w .0) (w .1) one
+try-is-found c a inside one = let w = bounds 96 103 a inside in try-there (c .memory) a (w .0) (w .1) one
 
 pub right-code-opens : Right-code-opens
 right-code-opens fus code c i left right =

@@ -18,7 +18,7 @@ use Rattle.rules.specs.Demands.{NoTryLeft, Shut-for-good, Shut-in-a-run}
 use Rattle.rules.proofs.Tests.{cond-cases}
 use Rattle.rules.proofs.StepCases.{Way, Keeps, Follows, Latches, SwitchesOff, Resets, Programs, Unlatches, Clocks}
 use Rattle.rules.proofs.StepCases.{moved, way, operationOf, step-cases, after-keeps, run-keeps}
-use Rattle.rules.proofs.ZoneCases.{within}
+use Rattle.rules.proofs.Between.{bounds}
 use Rattle.rules.proofs.Mild.{mild-keeps-zeros, mild-shuts}
 
 -- SV is 0, and so are bits 96 to 103.
@@ -32,7 +32,7 @@ shut-programmed c n p =
     let there : Held = held (c .fuses) (c .volatile) in
     record {
       unopened = cc (mild-shuts there _ _ _ _ (p .unopened) (c .memory) (c .volatile .matched) (p .spent _));
-      spent = λ a e. mild-keeps-zeros there _ _ _ _ (p .unopened) (c .memory) a (omega (arith, within 96 103 a e)) (p .spent a e);
+      spent = λ a e. mild-keeps-zeros there _ _ _ _ (p .unopened) (c .memory) a (omega (arith, bounds 96 103 a e)) (p .spent a e);
     }
 
 shut-moved : (c : Card) (n : ℕ) → Shut c → (w : Way) → Shut (moved w n c)

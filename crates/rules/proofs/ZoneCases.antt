@@ -1,19 +1,15 @@
 -- 01, "Rights": where the zones lie, as laws of the definition.
 use Prim.Native.Nat.{ℕ, _≤_, _<_}
 use mathlib.Core.Path.{_≡_}
-use mathlib.Core.Bool.{Bool, true, false, not, _||_, and-false}
+use mathlib.Core.Bool.{Bool, true, false, not, _||_}
 use native.Mathlib.Omega.{arith}
 use native.Mathlib.Decide.{decLe}
-use lib.Dec.{leb}
-use borrow.Author.Tests.{leb-true, le-leb, lt-leb, ne-eqb}
+use borrow.Author.Tests.{le-leb, lt-leb, ne-eqb}
 use Rattle.rules.specs.declared.Zone.the-variants.{Gap}
 use Rattle.rules.specs.Zones.{last, between, zone}
 use Rattle.rules.specs.Demands.{hidden}
-use Rattle.rules.proofs.Tests.{all, below-then, and-left, and-right}
-
-pub within : (low high a : ℕ) → between low high a ≡ true → (low ≤ a) × (a ≤ high)
-unfolding between
-within low high a e = (leb-true low a (and-left _ _ e), leb-true a high (and-right (leb low a) _ e))
+use Rattle.rules.proofs.Tests.{all, below-then}
+use Rattle.rules.proofs.Between.{over}
 
 -- One computed test over the addresses: what p says of an address, q says too.
 pub addressed : (p q : ℕ → Bool) → all 1520 (λ a. not (p a) || q a) ≡ true → (a : ℕ) → a ≤ last → p a ≡ true → q a ≡ true
@@ -53,13 +49,5 @@ past-all a h =
 
 -- Past EZ nothing is hidden.
 pub hidden-past : (a : ℕ) → 1231 < a → hidden a ≡ false
-unfolding hidden between
-hidden-past a h =
-    rw (
-      lt-leb a 95 (omega arith),
-      lt-leb a 1199 (omega arith),
-      lt-leb a 1231 h,
-      and-false (leb 80 a),
-      and-false (leb 176 a),
-      and-false (leb 1200 a),
-    )
+unfolding hidden
+hidden-past a h = rw (over 80 95 a (omega arith), over 176 1199 a (omega arith), over 1200 1231 a h)

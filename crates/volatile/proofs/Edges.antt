@@ -1,18 +1,19 @@
 -- The masks that the code puts on the word, as what the edges do to the flags.
-use Prim.Native.Nat.{ℕ, _≤_, _<_}
+use Prim.Native.Nat.{ℕ, _<_}
 use native.Mathlib.Omega.{arith}
 use native.Mathlib.Decide.{ℕ-discrete}
 use mathlib.Core.Path.{_≡_, refl, sym, ap, _∙_}
 use mathlib.Core.Bool.{Bool, true, false, cond, not, _&&_, _||_, and-true, and-false, false≢true}
 use mathlib.Core.List.{List}
-use lib.Dec.{eqb, leb}
+use lib.Dec.{eqb}
 use lib.Bits.{bitAnd, bitOr}
-use borrow.Author.Tests.{ne-eqb, leb-true, lt-leb}
+use borrow.Author.Tests.{ne-eqb}
 use Rattle.memory.specs.Image.{digit, bit}
-use Rattle.memory.proofs.Below.{all, and-right}
+use Rattle.memory.proofs.Below.{all}
 use Rattle.rules.specs.Halves.{EC-EN, unblown}
 use Rattle.rules.specs.Lines.{high, place}
 use Rattle.rules.specs.Zones.{between}
+use Rattle.rules.proofs.Between.{under, bounds}
 use Rattle.rules.specs.Match.{arrived, endsMatch}
 use Rattle.rules.specs.Steps.{follows, clkRises, unlatched}
 use Rattle.volatile.specs.declared.Volatile.{Volatile}
@@ -134,10 +135,7 @@ module _ (m : List ℕ) (fuses : ℕ) (v : Volatile) where
 
 -- The two places where an operation sets a flag lie apart.
 apart : (a : ℕ) → between 96 103 a ≡ true → between 1232 1359 a ≡ false
-unfolding between
-apart a e =
-    let low : a ≤ 103 = leb-true a 103 (and-right (leb 96 a) (leb a 103) e) in
-    rw (lt-leb 1232 a (omega arith))
+apart a e = under 1232 1359 a (omega (arith, bounds 96 103 a e))
 
 -- Programming's end.
 module _ (v : Volatile) (n : ℕ) (l1 ec-en turned : Bool) where

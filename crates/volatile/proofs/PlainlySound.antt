@@ -2,7 +2,7 @@
 use Prim.Native.Nat.{ℕ, _≤_, _<_}
 use native.Mathlib.Omega.{arith}
 use mathlib.Core.Path.{_≡_, refl}
-use mathlib.Core.Bool.{Bool, true, false, not, _&&_, _||_, false≢true}
+use mathlib.Core.Bool.{Bool, true, false, not, _&&_, _||_}
 use borrow.Author.Tests.{ltb-false, le-ltb, not-true}
 use Rattle.memory.specs.Image.{digit}
 use Rattle.memory.proofs.Below.{and-left, and-right}
@@ -22,10 +22,6 @@ clear l f =
 cleared-by : (l f : ℕ) → l < 64 → f < 32 → (not (wired l f) || clear l f) ≡ true
 unfolding all wired clear digit
 cleared-by = below₂ 64 32 (λ l f. not (wired l f) || clear l f) refl
-
-then : (a b : Bool) → (not a || b) ≡ true → a ≡ true → b ≡ true
-then true b e h = e
-then false b e h = absurd (false≢true h)
 
 -- Booleans taken apart, from the outermost.
 both : (a b : Bool) → (a && b) ≡ true → (a ≡ true) × (b ≡ true)
@@ -63,4 +59,4 @@ module _ (v : Volatile) where
       let small : v .lines < 64 = omega arith in
       let few : v .flags < 32 = omega arith in
       clear-sound small few (ltb-false 1519 (v .address) (not-true _ (rest .0)))
-      (then (wired (v .lines) (v .flags)) (clear (v .lines) (v .flags)) (cleared-by (v .lines) (v .flags) small few) (rest .1))
+      (rw (rest .1) at (cleared-by (v .lines) (v .flags) small few))
