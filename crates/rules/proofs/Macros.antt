@@ -73,7 +73,7 @@ module _ (fuses : ℕ) (p1 r1 : Bool) where
   resets false m a sv e1 matched = step refl (step refl (ends refl))
 
   -- "set I/O"
-  pub sets-io : (fus level b : Bool) (m : List ℕ) (a : ℕ) (sv matched : Bool) →
+  sets-io : (fus level b : Bool) (m : List ℕ) (a : ℕ) (sv matched : Bool) →
       Leads (ready fus level m a sv matched) ((base fus + io b) ∷ []) (ready fus b m a sv matched)
   unfolding the-card base io
   sets-io true true true m a sv matched = step refl (ends refl)
@@ -104,7 +104,7 @@ module _ (fuses : ℕ) (p1 r1 : Bool) where
       )
 
   -- "CLK up, down"
-  pub ticks : (fus level : Bool) (m : List ℕ) (a : ℕ) (matched : Bool) → a < 103 →
+  ticks : (fus level : Bool) (m : List ℕ) (a : ℕ) (matched : Bool) → a < 103 →
       Leads (ready fus level m a false matched) ((base fus + io level + mask CLK) ∷ (base fus + io level) ∷ [])
       (ready fus level m (a + 1) false (codeMatch m a level matched))
   unfolding the-card base io

@@ -126,6 +126,7 @@ without-sv :
 without-sv h r1 e f i =
     record { sv = e i; p1 = h .p1; r1 = f i; e1 = h .e1; mf = h .mf; iss = h .iss; fus = h .fus }
 
+-- What may be read without SV and R1, of the zone alone.
 pub mayRead-readable : (h : Held) (z : Zone) → h .sv ≡ false → h .r1 ≡ false → mayRead h z ≡ readable z
 unfolding mayRead level1
 mayRead-readable h z e f =
@@ -136,6 +137,7 @@ pub mildOperation : Bool → Bool → Bool → Zone → Operation
 unfolding allowed
 mildOperation l1 rst latch z = cond (Bool·beq rst (isFuse z) && allowed l1 latch z) (effect l1 latch z) Nothing
 
+-- The operation of a card with SV 0 is that one.
 pub operation-mild :
     (h : Held) (ec-en rst latch : Bool) (a : ℕ) → h .sv ≡ false →
     operation h ec-en rst latch a ≡ mildOperation (level1 h) rst latch (zone a)
@@ -146,6 +148,7 @@ operation-mild h ec-en rst latch a e =
     ap (λ (x : Held). operation x ec-en rst latch a) (without-sv h (h .r1) e refl) ∙
     rw (program-agrees (h .p1) (h .r1) (h .e1) (h .mf) (h .fus) (h .iss) (zone a) latch bar)
 
+-- What is readable without SV is not hidden.
 pub readable-seen : (a : ℕ) → readable (zone a) ≡ true → hidden a ≡ false
 unfolding readable zone hidden all
 readable-seen a e =
@@ -165,6 +168,7 @@ chosen-mild true true op z f = f
 chosen-mild true false op z f = refl
 chosen-mild false u op z f = refl
 
+-- An operation without SV is mild.
 mild-operation :
     (h : Held) (ec-en rst latch : Bool) (a : ℕ) → h .sv ≡ false → mild (operation h ec-en rst latch a) (zone a) ≡ true
 unfolding mildOperation level1
@@ -188,6 +192,7 @@ mild-cases P a BlowMF e nothing writes erases blows = absurd (false≢true e)
 mild-cases P a BlowECEN e nothing writes erases blows = blows
 mild-cases P a BlowISS e nothing writes erases blows = absurd (false≢true e)
 
+-- The hidden zones lie below the MTZ.
 hidden-below : (b : ℕ) → hidden b ≡ true → b < 1360
 unfolding hidden between all
 hidden-below b h =

@@ -50,6 +50,7 @@ pub record Sound (v : Volatile) : Type 0 where
   pub wired : Wired (v .lines) (v .latch) (v .programming)
   pub placed : Placed (v .address) (v .matched) (v .e1)
 
+-- What 9 lets pass is sound.
 pub sound : (v : Volatile) → madeUp v ≡ false → Sound v
 unfolding madeUp mayMatch mayE1
 sound v e =
@@ -77,6 +78,7 @@ sound v e =
           };
     }
 
+-- 9 lets pass what is sound.
 pub unmade : (v : Volatile) → Sound v → madeUp v ≡ false
 unfolding madeUp mayMatch mayE1
 unmade v s =
@@ -99,6 +101,7 @@ pub record SoundCard (c : Card) : Type 0 where
   pub fused : c .fuses ≤ 7
   pub half : Sound (c .volatile)
 
+-- The same of a card, which 10 and 14 look at too.
 pub let-pass : (c : Card) → stateRefusal c ≡ 0 → SoundCard c
 unfolding stateRefusal
 let-pass c e =
@@ -125,6 +128,7 @@ idle-wired n e =
       started = λ x y z. cc (e x);
     }
 
+-- Address 0, where match and E1 have ended.
 at-zero : Placed 0 false false
 at-zero =
     record {
@@ -249,6 +253,7 @@ module _ (c : Card) (n : ℕ) (s : SoundCard c) (small : n < 64) where
   on-sound w l p wired placed = lasting w (record { levels = rw l small; unpowered = cc; wired = rw l wired; placed = placed })
 
   module _ (on : high VCC now ≡ true) where
+    -- VCC stays on, CLK stays, and PGM does not come up under it.
     wired-kept :
         high VCC n ≡ true → high CLK n ≡ high CLK now → (high CLK n ≡ true → high PGM n ≡ true → high PGM now ≡ true) →
         Wired n (v .latch) (v .programming)

@@ -55,11 +55,11 @@ line (suc (suc (suc (suc zero)))) = IO
 line (suc (suc (suc (suc (suc k))))) = FUS
 
 -- The test holds at each line.
-unfoldable pub allLines : (Line → Bool) → Bool
+unfoldable allLines : (Line → Bool) → Bool
 unfolding line all
 allLines test = all 6 (λ k. test (line k))
 
-pub each-line : (test : Line → Bool) → allLines test ≡ true → (x : Line) → test x ≡ true
+each-line : (test : Line → Bool) → allLines test ≡ true → (x : Line) → test x ≡ true
 unfolding allLines line place
 each-line test e x = subst (λ (y : Line). test y ≡ true) (of-place x) (below 6 (λ k. test (line k)) e (place x) (in-place x))
   where
