@@ -37,6 +37,7 @@ module _ (v : Volatile) (n a : ℕ) where
   kept-half = masked-half (λ (x : ℕ). x)
 
 module _ (v : Volatile) (n : ℕ) where
+  -- The lines only follow.
   pub follow-word : half n (v .address) (bitAnd (v .flags) 127) ≡ packed (follows n (unpacked v))
   unfolding packed follows unpacked all digit word
   follow-word = kept-half v n (v .address) 127 word (omega arith) refl
@@ -47,6 +48,7 @@ module _ (v : Volatile) (n : ℕ) where
   reset-word m fuses =
       kept-half v n 0 31 (λ sv p1 r1 programming latch e1 matched. word sv p1 r1 programming latch false false) (omega arith) refl
 
+  -- CLK falls without programming, and match is what the compare gives.
   pub unlatched-word :
       (t : Bool) →
       half n (v .address) (cond t (bitOr (bitAnd (v .flags) 39) 64) (bitAnd (v .flags) 39)) ≡ packed (unlatched n t (unpacked v))
@@ -57,6 +59,7 @@ module _ (v : Volatile) (n : ℕ) where
   unlatched-word false =
       kept-half v n (v .address) 39 (λ sv p1 r1 programming latch e1 matched. word sv p1 r1 false false e1 false) (omega arith) refl
 
+  -- CLK falls where nothing is compared and nothing comes.
   pub gone-on-word : (a : ℕ) → half n a (bitAnd (v .flags) 103) ≡ packed (goneOn n a (unpacked v))
   unfolding packed goneOn unpacked all digit word
   gone-on-word a = kept-half v n a 103 (λ sv p1 r1 programming latch. word sv p1 r1 false false) (omega arith) refl
@@ -112,6 +115,7 @@ module _ (m : List ℕ) (fuses : ℕ) (v : Volatile) where
   comes a k g set kept true = masked-half v (v .lines) a (λ (x : ℕ). bitOr x k) 127 (g true) (omega arith) set
   comes a k g set kept false = masked-half v (v .lines) a (λ (x : ℕ). bitOr x 0) 127 (g false) (omega arith) kept
 
+  -- At 176, 177 and 1232 a flag may come, elsewhere none.
   pub arrive-elsewhere :
       (a : ℕ) → (a ≡ 0 → ⊥) → (a ≡ 104 → ⊥) → (a ≡ 1360 → ⊥) →
       half (v .lines) a (bitOr (bitAnd (v .flags) 127) (arrivalFlags m fuses a (digit 6 (v .flags)))) ≡

@@ -3,6 +3,7 @@ use Prim.Native.Nat.{ℕ, _≤_, _<_}
 use native.Mathlib.Omega.{arith}
 use mathlib.Core.Path.{_≡_, refl}
 use mathlib.Core.Bool.{Bool, true, false, not, _&&_, _||_}
+use lib.Dec.{ltb}
 use borrow.Author.Tests.{ltb-false, le-ltb, not-true}
 use Rattle.memory.specs.Image.{digit}
 use Rattle.memory.proofs.Below.{and-left, and-right}
@@ -51,9 +52,9 @@ module _ (v : Volatile) where
   pub plainly-sound : plainlySound v ≡ true → madeUpWord v ≡ false
   unfolding plainlySound
   plainly-sound e =
-      let lines = both _ _ e in
-      let flags = both _ _ (lines .1) in
-      let rest = both _ _ (flags .1) in
+      let lines = both (not (ltb 63 (v .lines))) _ e in
+      let flags = both (not (ltb 31 (v .flags))) _ (lines .1) in
+      let rest = both (not (ltb 1519 (v .address))) _ (flags .1) in
       let l = ltb-false 63 (v .lines) (not-true _ (lines .0)) in
       let f = ltb-false 31 (v .flags) (not-true _ (flags .0)) in
       let small : v .lines < 64 = omega arith in

@@ -119,7 +119,7 @@ granted-mask asked small h =
     never-met (digit 0 asked) _)
 
 -- The tests of the state check after the first, as the code puts them together.
-abbrev pub later-tests : Volatile → Bool
+abbrev later-tests : Volatile → Bool
 later-tests v =
     ltb 63 (v .lines) ||
     (ltb 1519 (v .address) ||
