@@ -16,7 +16,7 @@ use Rattle.rules.specs.Lines.{CLK, VCC, PGM, place, mask, high}
 use Rattle.rules.specs.Zones.{zone}
 use Rattle.rules.specs.Rights.{held, mayRead}
 use Rattle.rules.specs.Steps.{clkRises, withVolatile, next, driven, pinValue, pin}
-use Rattle.rules.proofs.Tests.{below-then, below₂}
+use Rattle.theorems.proofs.Tests.{below-then, below₂}
 use Rattle.volatile.specs.declared.Volatile.{Volatile}
 use Rattle.volatile.specs.Packed.{packed, unpacked, Given, given, cardOf, withHalf, wired, plainlySound, goneOn}
 use Rattle.volatile.proofs.Packing.{unpacked-packed}

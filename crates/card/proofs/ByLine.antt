@@ -16,8 +16,8 @@ use Rattle.rules.specs.Refusals.{anySet, madeUp, many, edgeRefusal, refusal}
 use Rattle.rules.specs.Match.{arrived}
 use Rattle.rules.specs.Steps.{follows, withVolatile, vccFalls, clkRises, rstFalls, unlatched, clocked, clkFalls, powered, next}
 use Rattle.rules.specs.Steps.{driven, pinValue, pin}
-use Rattle.rules.proofs.Tests.{neither, edge-same}
-use Rattle.rules.proofs.Soundness.{Sound, sound}
+use Rattle.theorems.proofs.Tests.{neither, edge-same}
+use Rattle.theorems.proofs.Soundness.{Sound, sound}
 use Rattle.volatile.specs.declared.Volatile.{Volatile}
 use Rattle.volatile.specs.Packed.{packed, unpacked, Given, cardOf, handedBack, withHalf, madeUpWord}
 use Rattle.volatile.proofs.Packing.{unpacked-packed, packed-unpacked}

@@ -15,9 +15,9 @@ use Rattle.rules.specs.Halves.{Card}
 use Rattle.rules.specs.Refusals.{refusal, madeUp, before-a-run}
 use Rattle.rules.specs.Steps.{next, pin}
 use Rattle.rules.specs.Card.{Ran, added, ended, run, answersIn}
-use Rattle.rules.proofs.Tests.{peel}
-use Rattle.rules.proofs.Runs.{behind, run-append}
-use Rattle.rules.proofs.Soundness.{SoundCard, let-pass, passes, unmade, sound-stays-sound}
+use Rattle.theorems.proofs.Tests.{peel}
+use Rattle.theorems.proofs.Runs.{behind, run-append}
+use Rattle.theorems.proofs.Soundness.{SoundCard, let-pass, passes, unmade, sound-stays-sound}
 use Rattle.volatile.specs.Packed.{packed, unpacked, Given, given, cardOf, handedBack, madeUpWord}
 use Rattle.volatile.proofs.Packing.{unpacked-packed, packed-unpacked, packed-small}
 use Rattle.refusals.specs.Before.{givenRefusal, givenRunRefusal}

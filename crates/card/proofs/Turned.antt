@@ -9,7 +9,7 @@ use lib.Bits.{bitXor, xor-shr, xor-zero-l}
 use borrow.Author.Tests.{eqb-true}
 use Rattle.memory.specs.Image.{digit}
 use Rattle.rules.specs.Lines.{Line, VCC, RST, CLK, PGM, IO, FUS, place, high, Edge, Same, Rises, Falls, Many, change, edge}
-use Rattle.rules.proofs.Tests.{all, below₂, line, edge-rises, edge-falls}
+use Rattle.theorems.proofs.Tests.{all, below₂, line, edge-rises, edge-falls}
 
 -- Below 64 the difference is below 64 with both.
 pub small-step : (levels n : ℕ) → levels < 64 → bitXor levels n < 64 → n < 64

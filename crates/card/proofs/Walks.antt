@@ -15,7 +15,7 @@ use Rattle.rules.specs.Zones.{between, zone}
 use Rattle.rules.specs.Rights.{Held, held, level1, mayRead}
 use Rattle.rules.specs.Match.{compared, following, endsMatch, arrived}
 use Rattle.rules.specs.Steps.{withVolatile, unlatched, clocked, driven, pinValue, pin}
-use Rattle.rules.proofs.Tests.{beq-true, below-then, neither}
+use Rattle.theorems.proofs.Tests.{beq-true, below-then, neither}
 use Rattle.volatile.specs.Packed.{packed, unpacked, Given, cardOf, withHalf, goneOn}
 use Rattle.volatile.proofs.Between.{over}
 use Rattle.volatile.proofs.Readable.{az-readable, sv-or-r1}

@@ -10,7 +10,7 @@ use lib.ListN.{length}
 use Rattle.memory.specs.Image.{bytes}
 use Rattle.rules.specs.Refusals.{longest}
 use Rattle.rules.specs.File.{fuseCountAt, stepCountAt, stepsAt, count, fuseSection, stepCount, partsRefusal, cardRefusal, sessionRefusal}
-use Rattle.rules.proofs.Tests.{peel}
+use Rattle.theorems.proofs.Tests.{peel}
 
 chain :
     (a b c d e : Bool) (more : ℕ) →

@@ -9,7 +9,7 @@ use lib.Count.{leadingZeros}
 use lib.Dec.{eqb, ltb}
 use Rattle.memory.proofs.Laws.{digit-shift}
 use Rattle.rules.specs.Maker.{reset, walk, show, zerosBefore, open-card, actRefusal, openRefusal}
-use Rattle.rules.proofs.MakerLaws.{length-open}
+use Rattle.theorems.proofs.MakerLaws.{length-open}
 use Rattle.maker.specs.Parts.{pulse, shownBit, upToCode, useTry}
 use Rattle.maker.proofs.Zeros.{leading-zeros}
 

@@ -13,7 +13,7 @@ use Rattle.memory.proofs.Below.{all}
 use Rattle.rules.specs.Halves.{EC-EN, unblown}
 use Rattle.rules.specs.Lines.{high, place}
 use Rattle.rules.specs.Zones.{between}
-use Rattle.rules.proofs.Between.{under, bounds}
+use Rattle.theorems.proofs.Between.{under, bounds}
 use Rattle.rules.specs.Match.{arrived, endsMatch}
 use Rattle.rules.specs.Steps.{follows, clkRises, unlatched}
 use Rattle.volatile.specs.declared.Volatile.{Volatile}

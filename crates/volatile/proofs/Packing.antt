@@ -12,7 +12,7 @@ use borrow.Author.Tests.{eqb-true}
 use Rattle.memory.specs.Image.{digit}
 use Rattle.memory.proofs.Below.{all, below}
 use Rattle.rules.specs.Halves as Halves
-use Rattle.rules.proofs.Tests.{beq-true}
+use Rattle.theorems.proofs.Tests.{beq-true}
 use Rattle.volatile.specs.declared.Volatile.{Volatile}
 use Rattle.volatile.specs.Packed.{one, word, packed, unpacked}
 

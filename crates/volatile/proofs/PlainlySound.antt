@@ -9,7 +9,7 @@ use Rattle.memory.specs.Image.{digit}
 use Rattle.memory.proofs.Below.{and-left, and-right}
 use Rattle.rules.specs.Lines.{high, place}
 use Rattle.rules.specs.Refusals.{madeUp}
-use Rattle.rules.proofs.Tests.{all, below₂}
+use Rattle.theorems.proofs.Tests.{all, below₂}
 use Rattle.volatile.specs.declared.Volatile.{Volatile}
 use Rattle.volatile.specs.Packed.{unpacked, madeUpWord, wired, plainlySound}
 

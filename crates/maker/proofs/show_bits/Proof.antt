@@ -1,7 +1,7 @@
 use Prim.Native.Nat.{_+_, _*_}
 use mathlib.Core.Path.{refl}
 use borrow.Author.Needs.{needs}
-use Rattle.rules.proofs.MakerLaws.{length-show}
+use Rattle.theorems.proofs.MakerLaws.{length-show}
 use Rattle.maker.proofs.Acting.{short, wrote}
 use Rattle.maker.proofs.show_bits.Statement.{statement}
 use Rattle.maker.proofs.show_bits.Tie as tie

@@ -3,7 +3,7 @@ use mathlib.Core.Path.{refl}
 use borrow.Author.Needs.{needs}
 use borrow.Author.Tests.{lt-ltb, le-ltb}
 use Rattle.rules.specs.Maker.{walkRefusal}
-use Rattle.rules.proofs.MakerLaws.{length-walk}
+use Rattle.theorems.proofs.MakerLaws.{length-walk}
 use Rattle.maker.proofs.Acting.{barred, short, wrote}
 use Rattle.maker.proofs.walk.Statement.{statement}
 use Rattle.maker.proofs.walk.Tie as tie

@@ -5,16 +5,16 @@ use mathlib.Core.Bool.{Bool, true, false, cond}
 use mathlib.Core.List.{List, [], _∷_}
 use lib.Dec.{eqb}
 use borrow.Author.Tests.{eqb-true}
 use Rattle.rules.specs.declared.Operation.{Operation}
 use Rattle.rules.specs.Halves.{Volatile, Card}
 use Rattle.rules.specs.Lines.{VCC, RST, CLK, PGM, IO, FUS, high, Edge, Same, Rises, Falls, Many, edge}
 use Rattle.rules.specs.Programming.{operationNow}
 use Rattle.rules.specs.Steps.{follows, withVolatile, vccFalls, clkRises, rstFalls, programmed, unlatched, clocked, clkFalls}
 use Rattle.rules.specs.Steps.{powered, next}
 use Rattle.rules.specs.Refusals.{refusal, stateRefusal}
 use Rattle.rules.specs.Card.{Ran, stepped, checkedStep, run}
 use Rattle.rules.specs.Demands.{after}
-use Rattle.rules.proofs.Tests.{cond-cases}
+use Rattle.theorems.proofs.Tests.{cond-cases}
 
 -- Refused or without a difference; the lines only follow; CLK rises; VCC falls; RST falls; CLK falls in programming, with RST high, and
 -- otherwise.

@@ -6,20 +6,20 @@ use native.Mathlib.Omega.{arith}
 use lib.Dec.{eqb}
 use lib.ListN.{length}
 use Rattle.memory.specs.Image.{bit}
 use Rattle.rules.specs.Halves.{Volatile, Card, off}
 use Rattle.rules.specs.Zones.{between}
 use Rattle.rules.specs.Rights.{Held, held}
 use Rattle.rules.specs.Programming.{operationNow}
 use Rattle.rules.specs.Match.{arrived}
 use Rattle.rules.specs.Steps.{follows, vccFalls, clkRises, rstFalls, programmed, unlatched, clocked}
 use Rattle.rules.specs.Refusals.{runRefusal}
 use Rattle.rules.specs.Card.{Ran, stepped, checkedRun}
 use Rattle.rules.specs.Demands.{NoTryLeft, Shut-for-good, Shut-in-a-run}
-use Rattle.rules.proofs.Tests.{cond-cases}
-use Rattle.rules.proofs.StepCases.{Way, Keeps, Follows, Latches, SwitchesOff, Resets, Programs, Unlatches, Clocks}
-use Rattle.rules.proofs.StepCases.{moved, way, operationOf, step-cases, after-keeps, run-keeps}
-use Rattle.rules.proofs.Between.{bounds}
-use Rattle.rules.proofs.Mild.{mild-keeps-zeros, mild-shuts}
+use Rattle.theorems.proofs.Tests.{cond-cases}
+use Rattle.theorems.proofs.StepCases.{Way, Keeps, Follows, Latches, SwitchesOff, Resets, Programs, Unlatches, Clocks}
+use Rattle.theorems.proofs.StepCases.{moved, way, operationOf, step-cases, after-keeps, run-keeps}
+use Rattle.theorems.proofs.Between.{bounds}
+use Rattle.theorems.proofs.Mild.{mild-keeps-zeros, mild-shuts}
 
 -- SV is 0, and so are bits 96 to 103.
 record Shut (c : Card) : Type 0 where

@@ -9,21 +9,21 @@ use lib.ListN.{length}
 use borrow.Author.Tests.{ltb-false, le-ltb, eqb-true, eq-eqb, not-false, leb-true}
 use Rattle.memory.specs.Image.{bytes, digit, cleared, bit}
 use Rattle.memory.proofs.Laws.{length-written, length-erased, length-filled}
 use Rattle.rules.specs.declared.Operation.{Operation}
 use Rattle.rules.specs.declared.Operation.the-variants.{Nothing, WriteBit, EraseWord, EraseZone}
 use Rattle.rules.specs.declared.Operation.the-variants.{WriteBlock, EraseBlock, BlowMF, BlowECEN, BlowISS}
 use Rattle.rules.specs.Halves.{Volatile, Card, off, blown, EC-EN, unblown}
 use Rattle.rules.specs.Lines.{Line, VCC, RST, CLK, PGM, IO, FUS, place, high, Edge, Same, Rises, Falls, Many, edge}
 use Rattle.rules.specs.Zones.{between, last}
 use Rattle.rules.specs.Rights.{held, level1}
 use Rattle.rules.specs.Programming.{memoryAfter, fusesAfter}
 use Rattle.rules.specs.Match.{compared, following, endsMatch}
 use Rattle.rules.specs.Steps.{follows, withVolatile, vccFalls, clkRises, rstFalls, programmed, unlatched, clocked, clkFalls}
 use Rattle.rules.specs.Steps.{powered, next}
 use Rattle.rules.specs.Refusals.{edgeRefusal, refusal, anySet, madeUp, stateRefusal}
 use Rattle.rules.specs.Demands.{Sound-stays-sound}
-use Rattle.rules.proofs.ZoneCases.{addressed}
-use Rattle.rules.proofs.Tests.{cond-cases, peel, neither, guarded, all, below₂, Moved, edge-rises, edge-falls}
+use Rattle.theorems.proofs.ZoneCases.{addressed}
+use Rattle.theorems.proofs.Tests.{cond-cases, peel, neither, guarded, all, below₂, Moved, edge-rises, edge-falls}
 
 -- Where match may hold, and E1.
 unfoldable pub mayMatch : ℕ → Bool

@@ -6,12 +6,12 @@ use lib.Dec.{eqb}
 use lib.ListN.{length}
 use borrow.Author.Tests.{eqb-true, le-ltb}
 use Rattle.memory.specs.Image.{bytes}
 use Rattle.rules.specs.Halves.{Card, fresh}
 use Rattle.rules.specs.Refusals.{refusal, stateRefusal}
 use Rattle.rules.specs.Card.{stepped, answered, checkedStep, checkedAnswer}
 use Rattle.rules.specs.Computing.{the-card}
-use Rattle.rules.proofs.Tests.{cond-cases}
-use Rattle.rules.proofs.Soundness.{sound-stays-sound}
+use Rattle.theorems.proofs.Tests.{cond-cases}
+use Rattle.theorems.proofs.Soundness.{sound-stays-sound}
 
 -- 10, 14 and 9 let the card pass.
 abbrev pub Passes : Card → Type 0

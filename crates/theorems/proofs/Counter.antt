@@ -11,19 +11,19 @@ use lib.Seq.{set-set}
 use borrow.Author.Tests.{lt-leb, le-leb, lt-ltb, eq-eqb, ne-eqb}
 use Rattle.memory.specs.Image.{bytes, digit, bit, written, erasedWord}
 use Rattle.memory.proofs.Laws.{bit-erased}
 use Rattle.rules.specs.declared.Zone.the-variants.{SCAC}
 use Rattle.rules.specs.declared.Operation.{Operation}
 use Rattle.rules.specs.declared.Operation.the-variants.{Nothing, WriteBit, EraseWord}
 use Rattle.rules.specs.Zones.{between, zone}
 use Rattle.rules.specs.Rights.{Held, held, level1, granted}
 use Rattle.rules.specs.Programming.{operation, asks, mayProgram, memoryAfter, turns, opens, keyOpens}
 use Rattle.rules.specs.Halves.{EC-EN, unblown}
 use Rattle.rules.specs.Lines.{CLK, mask}
 use Rattle.rules.specs.Steps.{programmed}
 use Rattle.rules.specs.Maker.{zerosBefore, io, idle, program}
 use Rattle.rules.specs.Computing.{the-card}
-use Rattle.rules.proofs.Between.{within, under}
-use Rattle.rules.proofs.Macros.{Leads, then, ready, on, programs}
+use Rattle.theorems.proofs.Between.{within, under}
+use Rattle.theorems.proofs.Macros.{Leads, then, ready, on, programs}
 
 zone-SCAC : (a : ℕ) → 96 ≤ a → a ≤ 111 → zone a ≡ SCAC
 unfolding zone

@@ -8,18 +8,18 @@ use mathlib.Core.List.{List, [], _∷_, _++_}
 use lib.Dec.{eqb}
 use lib.ListN.{length}
 use borrow.Author.Tests.{ne-eqb, lt-leb}
 use Rattle.rules.specs.Halves.{Card, EC-EN, unblown}
 use Rattle.rules.specs.Lines.{CLK, mask}
 use Rattle.rules.specs.Zones.{between}
 use Rattle.rules.specs.Rights.{held}
 use Rattle.rules.specs.Programming.{operation}
 use Rattle.rules.specs.Refusals.{refusal}
 use Rattle.rules.specs.Match.{compared, following, endsMatch, arrived}
 use Rattle.rules.specs.Steps.{next, programmed, unlatched, clocked}
 use Rattle.rules.specs.Card.{Ran, run}
 use Rattle.rules.specs.Computing.{the-card}
 use Rattle.rules.specs.Maker.{base, io, idle, reset, walk, showBits, program}
-use Rattle.rules.proofs.CodeMatch.{codeMatch, shownMatch}
+use Rattle.theorems.proofs.CodeMatch.{codeMatch, shownMatch}
 
 -- From one card the steps, each accepted, lead to the other.
 pub data Leads : Card → List ℕ → Card → Type 0 where

@@ -6,19 +6,19 @@ use mathlib.Core.List.{List}
 use lib.Dec.{eqb}
 use lib.ListN.{length}
 use Rattle.memory.specs.Image.{bit}
 use Rattle.rules.specs.Halves.{Volatile, Card, off}
 use Rattle.rules.specs.Lines.{VCC, RST, PGM, high}
 use Rattle.rules.specs.Zones.{between, zone}
 use Rattle.rules.specs.Rights.{Held, held, level1}
 use Rattle.rules.specs.Programming.{operationNow, memoryAfter}
 use Rattle.rules.specs.Match.{following, arrived}
 use Rattle.rules.specs.Steps.{follows, withVolatile, vccFalls, clkRises, rstFalls, programmed, unlatched, clocked, driven, pin}
 use Rattle.rules.specs.Demands.{hidden, ZonesKept}
-use Rattle.rules.proofs.Tests.{and-right}
-use Rattle.rules.proofs.StepCases.{Way, Keeps, Follows, Latches, SwitchesOff, Resets, Programs, Unlatches, Clocks}
-use Rattle.rules.proofs.StepCases.{moved, operationOf}
-use Rattle.rules.proofs.Mild.{readable, readable-seen, mayRead-readable}
-use Rattle.rules.proofs.Mild.{mildOperation, operation-mild, mild-length, mild-keeps-hidden, mild-keeps-equal}
+use Rattle.theorems.proofs.Tests.{and-right}
+use Rattle.theorems.proofs.StepCases.{Way, Keeps, Follows, Latches, SwitchesOff, Resets, Programs, Unlatches, Clocks}
+use Rattle.theorems.proofs.StepCases.{moved, operationOf}
+use Rattle.theorems.proofs.Mild.{readable, readable-seen, mayRead-readable}
+use Rattle.theorems.proofs.Mild.{mildOperation, operation-mild, mild-length, mild-keeps-hidden, mild-keeps-equal}
 
 -- Of a card that was s at the start: R1 is 0, and the three zones hold what they held.
 pub record Closed (s c : Card) : Type 0 where

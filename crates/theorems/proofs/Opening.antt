@@ -9,19 +9,19 @@ use lib.ListN.{length}
 use borrow.Author.Tests.{le-ltb, ne-eqb, eq-eqb}
 use Rattle.memory.specs.Image.{digit, written, erasedWord}
 use Rattle.memory.proofs.Laws.{bit-written}
 use Rattle.rules.specs.Halves.{Volatile, Card}
 use Rattle.rules.specs.Lines.{CLK, place, high}
 use Rattle.rules.specs.Zones.{between}
 use Rattle.rules.specs.Refusals.{madeUp, stateRefusal, runRefusal}
 use Rattle.rules.specs.Card.{checkedRun}
 use Rattle.rules.specs.Maker.{idle, reset, walk, digits, showBits, program, zerosBefore, open-card, actRefusal, openRefusal}
 use Rattle.rules.specs.Demands.{Idle, attempts, firstTry, shown}
 use Rattle.rules.specs.Demands.{Try-is-found, Right-code-opens, Wrong-code-spends-one-try, Opens-as-made}
-use Rattle.rules.proofs.Between.{bounds, under, over}
-use Rattle.rules.proofs.CodeMatch.{shownMatch, right-matches, wrong-fails}
-use Rattle.rules.proofs.MakerLaws.{length-open}
-use Rattle.rules.proofs.Macros.{Leads, then, Reaches, leads-run, on, ready, resets, walks, shows}
-use Rattle.rules.proofs.Counter.{uses-try, first-try, try-there, erased-after-write, word-restored}
+use Rattle.theorems.proofs.Between.{bounds, under, over}
+use Rattle.theorems.proofs.CodeMatch.{shownMatch, right-matches, wrong-fails}
+use Rattle.theorems.proofs.MakerLaws.{length-open}
+use Rattle.theorems.proofs.Macros.{Leads, then, Reaches, leads-run, on, ready, resets, walks, shows}
+use Rattle.theorems.proofs.Counter.{uses-try, first-try, try-there, erased-after-write, word-restored}
 
 clk-low : (fus : Bool) → high CLK (idle fus) ≡ false
 unfolding high digit place idle

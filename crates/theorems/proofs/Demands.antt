@@ -1,16 +1,16 @@
 -- The proof of each statement of `specs.Demands`, in its order, and after it an example that the statement speaks of.
 use mathlib.Core.Bool.{Bool}
 use Rattle.rules.specs.Demands.{Refused-step-keeps-all, Run-stops-at-a-refusal, Sound-stays-sound}
 use Rattle.rules.specs.Demands.{Try-is-found, Right-code-opens, Wrong-code-spends-one-try, Opens-as-made}
 use Rattle.rules.specs.Demands.{Hidden-before-opening, Hidden-in-a-run, Shut-for-good, Shut-in-a-run}
-use Rattle.rules.proofs.Stopping as Stopping
-use Rattle.rules.proofs.Soundness as Soundness
-use Rattle.rules.proofs.Opening as Opening
-use Rattle.rules.proofs.Hidden as Hidden
-use Rattle.rules.proofs.Shut as Shut
-use Rattle.rules.proofs.StepExamples as Steps
-use Rattle.rules.proofs.OpeningExamples as Openings
-use Rattle.rules.proofs.Examples as Cards
+use Rattle.theorems.proofs.Stopping as Stopping
+use Rattle.theorems.proofs.Soundness as Soundness
+use Rattle.theorems.proofs.Opening as Opening
+use Rattle.theorems.proofs.Hidden as Hidden
+use Rattle.theorems.proofs.Shut as Shut
+use Rattle.theorems.proofs.StepExamples as Steps
+use Rattle.theorems.proofs.OpeningExamples as Openings
+use Rattle.theorems.proofs.Examples as Cards
 
 -- Demand 1.
 

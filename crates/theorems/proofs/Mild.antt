@@ -9,18 +9,18 @@ use lib.ListN.{length}
 use borrow.Author.Tests.{eqb-true, ne-eqb, ltb-true, not-true}
 use Rattle.memory.specs.Image.{bit, erasedWord}
 use Rattle.memory.proofs.Laws.{bit-written, bit-erased, length-written, length-erased}
 use Rattle.rules.specs.declared.Zone.{Zone}
 use Rattle.rules.specs.declared.Zone.the-variants.{FZ, IZ, SC, SCAC, CPZ, AZ, EZ, EC, MTZ, MFZ}
 use Rattle.rules.specs.declared.Zone.the-variants.{Block, FuseMF, FuseECEN, FuseISS, Gap}
 use Rattle.rules.specs.declared.Operation.{Operation}
 use Rattle.rules.specs.declared.Operation.the-variants.{Nothing, WriteBit, EraseWord, EraseZone}
 use Rattle.rules.specs.declared.Operation.the-variants.{WriteBlock, EraseBlock, BlowMF, BlowECEN, BlowISS}
 use Rattle.rules.specs.Zones.{between, zone, row, isFuse}
 use Rattle.rules.specs.Rights.{Held, level1, granted, rights, mayRead, no}
 use Rattle.rules.specs.Programming.{barred, asks, mayProgram, effect, operation, memoryAfter, turns, opens}
 use Rattle.rules.specs.Demands.{hidden}
-use Rattle.rules.proofs.Tests.{all, beq-true, and-left, and-right}
-use Rattle.rules.proofs.ZoneCases.{past-all, hidden-past, everywhere}
+use Rattle.theorems.proofs.Tests.{all, beq-true, and-left, and-right}
+use Rattle.theorems.proofs.ZoneCases.{past-all, hidden-past, everywhere}
 
 is : Zone → Zone → Bool
 is z y = eqb (row z) (row y)

@@ -5,12 +5,12 @@ use mathlib.Core.Path.{_≡_, refl, ap}
 use mathlib.Core.Bool.{Bool, true, false, true≢false}
 use mathlib.Core.List.{List, _∷_, _++_}
 use lib.ListN.{getD, replicate}
 use Rattle.rules.specs.Halves.{Card}
 use Rattle.rules.specs.Computing.{the-card}
 use Rattle.rules.specs.Card.{checkedRun}
 use Rattle.rules.specs.Maker.{idle, digits, zerosBefore, open-card, actRefusal, openRefusal}
 use Rattle.rules.specs.Demands.{Idle, attempts, firstTry, bitsFrom, CodeIsRight, shown}
-use Rattle.rules.proofs.Opening.{right-code-opens, wrong-code-spends-one-try, opens-as-made}
+use Rattle.theorems.proofs.Opening.{right-code-opens, wrong-code-spends-one-try, opens-as-made}
 
 -- The code 0x1234 in bits 80 to 95, and a byte of bits 96 to 103; all other bits but the first are ones.
 abbrev image : ℕ → List ℕ

@@ -7,12 +7,12 @@ use mathlib.Core.List.{List, [], _∷_}
 use lib.Dec.{eqb}
 use lib.ListN.{length}
 use borrow.Author.Tests.{eqb-true, eqb-false}
 use Rattle.rules.specs.Halves.{Card}
 use Rattle.rules.specs.Refusals.{refusal, stateRefusal, runRefusal}
 use Rattle.rules.specs.Steps.{next, pin}
 use Rattle.rules.specs.Card.{added, ended, refusalIn, stepped, answered, checkedStep, checkedAnswer, run, checkedRun}
 use Rattle.rules.specs.Demands.{Refused-step-keeps-all, Stops, Run-stops-at-a-refusal}
-use Rattle.rules.proofs.Tests.{cond-cases}
+use Rattle.theorems.proofs.Tests.{cond-cases}
 
 pub refused-step-keeps-all : Refused-step-keeps-all
 unfolding checkedStep checkedAnswer stepped answered refusalIn

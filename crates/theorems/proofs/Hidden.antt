@@ -7,19 +7,19 @@ use native.Mathlib.Omega.{arith}
 use lib.Dec.{eqb, ltb}
 use lib.ListN.{length, take, length-take}
 use borrow.Author.Tests.{eqb-true, ltb-false, le-ltb}
 use Rattle.rules.specs.declared.Answer.{Answer}
 use Rattle.rules.specs.declared.Answer.the-variants.{Pin}
 use Rattle.rules.specs.Halves.{Card, off, fresh}
 use Rattle.rules.specs.Steps.{next, pin}
 use Rattle.rules.specs.Refusals.{refusal, stateRefusal, before-a-run, runRefusal, longest}
 use Rattle.rules.specs.Card.{Ran, stepped, answered, checkedStep, run, checkedRun}
 use Rattle.rules.specs.Demands.{Concealed, Alike, after, answers, Unopened, ZonesKept, Hidden-before-opening}
 use Rattle.rules.specs.Demands.{UnopenedRun, Hidden-in-a-run}
-use Rattle.rules.proofs.Tests.{peel}
-use Rattle.rules.proofs.StepCases.{Way}
-use Rattle.rules.proofs.StepCases.{moved, way, step-cases, same-way, same-refusal, accepted}
-use Rattle.rules.proofs.CheckedSteps.{Passes, fresh-passes, passes-on, checked-step, checked-answer}
-use Rattle.rules.proofs.AlikeCards.{Closed, Alike-cards, Unopened-card, closed-moved, alike-moved, cond-both, same-pin}
+use Rattle.theorems.proofs.Tests.{peel}
+use Rattle.theorems.proofs.StepCases.{Way}
+use Rattle.theorems.proofs.StepCases.{moved, way, step-cases, same-way, same-refusal, accepted}
+use Rattle.theorems.proofs.CheckedSteps.{Passes, fresh-passes, passes-on, checked-step, checked-answer}
+use Rattle.theorems.proofs.AlikeCards.{Closed, Alike-cards, Unopened-card, closed-moved, alike-moved, cond-both, same-pin}
 
 -- No run of a part of the list opens the card.
 abbrev Unopened-in : Card → List ℕ → Type 0

@@ -4,8 +4,8 @@ use mathlib.Core.Path.{_≡_}
 use mathlib.Core.Bool.{true, false, and-false}
 use borrow.Author.Tests.{le-leb, lt-leb, leb-true}
 use lib.Dec.{leb}
 use Rattle.rules.specs.Zones.{between}
-use Rattle.rules.proofs.Tests.{and-left, and-right}
+use Rattle.theorems.proofs.Tests.{and-left, and-right}
 
 module _ (low high a : ℕ) where
   pub within : low ≤ a → a ≤ high → between low high a ≡ true

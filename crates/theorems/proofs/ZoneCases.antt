@@ -5,11 +5,11 @@ use mathlib.Core.Bool.{Bool, true, false, not, _||_}
 use native.Mathlib.Omega.{arith}
 use native.Mathlib.Decide.{decLe}
 use borrow.Author.Tests.{le-leb, lt-leb, ne-eqb}
 use Rattle.rules.specs.declared.Zone.the-variants.{Gap}
 use Rattle.rules.specs.Zones.{last, between, zone}
 use Rattle.rules.specs.Demands.{hidden}
-use Rattle.rules.proofs.Tests.{all, below-then}
-use Rattle.rules.proofs.Between.{over}
+use Rattle.theorems.proofs.Tests.{all, below-then}
+use Rattle.theorems.proofs.Between.{over}
 
 -- One computed test over the addresses: what p says of an address, q says too.
 pub addressed : (p q : ℕ → Bool) → all 1520 (λ a. not (p a) || q a) ≡ true → (a : ℕ) → a ≤ last → p a ≡ true → q a ≡ true

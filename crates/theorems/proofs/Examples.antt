@@ -10,19 +10,19 @@ use lib.ListN.{length, take, replicate}
 use borrow.Author.Tests.{not-true, eqb-true}
 use Rattle.memory.specs.Image.{bit}
 use Rattle.memory.proofs.Laws.{bit-past}
 use Rattle.rules.specs.Halves.{Card, off}
 use Rattle.rules.specs.Zones.{between}
 use Rattle.rules.specs.Steps.{next}
 use Rattle.rules.specs.Refusals.{refusal, runRefusal}
 use Rattle.rules.specs.Card.{Ran, checkedStep, run, checkedRun}
 use Rattle.rules.specs.Computing.{the-card}
 use Rattle.rules.specs.Maker.{reset, walk, show, program, open-card}
 use Rattle.rules.specs.Demands.{hidden, Alike, freshCard, after, Unopened, UnopenedRun, NoTryLeft, CodeIsRight, bitsFrom}
-use Rattle.rules.proofs.Tests.{all, below, below-then, and-left, and-right, beq-true, cond-cases}
-use Rattle.rules.proofs.Soundness.{sound-stays-sound}
-use Rattle.rules.proofs.CheckedSteps.{Passes, checked-step}
-use Rattle.rules.proofs.StepCases.{accepted}
-use Rattle.rules.proofs.Between.{bounds}
+use Rattle.theorems.proofs.Tests.{all, below, below-then, and-left, and-right, beq-true, cond-cases}
+use Rattle.theorems.proofs.Soundness.{sound-stays-sound}
+use Rattle.theorems.proofs.CheckedSteps.{Passes, checked-step}
+use Rattle.theorems.proofs.StepCases.{accepted}
+use Rattle.theorems.proofs.Between.{bounds}
 
 -- An image of ones but for both bytes of the code, the attempts, the first byte of the application zone, and the first of the erase key.
 abbrev image : ℕ → ℕ → ℕ → ℕ → List ℕ
