@@ -66,4 +66,8 @@ pub not-long :
     (done given refusal : ℕ) (pins : List ℕ) (left : ℕ) → done < 2 ^ 64 → given < 2 ^ 64 → refusal < 2 ^ 64 → left < 2 ^ 64 →
     length pins ≡ longest → length (fourLines done given refusal pins left) ≤ enough
 not-long done given refusal pins left d g k l e =
-    omega (arith, length-lines done given refusal pins left, at-most-twenty done d, at-most-twenty given g, at-most-twenty refusal k, at-most-twenty left l)
+    let first = at-most-twenty done d in
+    let second = at-most-twenty given g in
+    let third = at-most-twenty refusal k in
+    let fourth = at-most-twenty left l in
+    omega (arith, length-lines done given refusal pins left, first, second, third, fourth)

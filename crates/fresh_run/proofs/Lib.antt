@@ -1,2 +1,3 @@
 pub mod AgainstCases
 pub mod Laws
+pub mod SessionTexts

@@ -1,2 +1,3 @@
 pub mod FreshRun
 pub mod Cases
+pub mod SessionCases

@@ -1,7 +1,6 @@
 // The sessions to learn from: what each shows, that its text assembles to the recorded bytes, and its four lines. Then each error of a text.
 use console::Input;
 use console::Output;
-use file::Session;
 use report::Text;
 use text::Assembled;
 ghost use Rattle.console.specs.Ends.{Taken};
@@ -48,22 +47,12 @@ fn show(out: Output, made: Text, text: &[u8]) -> Output {
     out
 }
 
-// What the session program prints of it.
-fn four_lines(out: Output, session: &[u8]) -> Output {
-    let mut memory = [0u8; 174];
-    let opened = file::open_session(session, &mut memory);
-    let Session::Parts { fuses, steps } = opened else {
-        return out.say(b"not a session\n");
-    };
-    let section = file::step_section(session, 174);
-    let mut text = [0u8; 4202];
-    let made = fresh_run::report(&mut memory, fuses, section, steps, &mut text);
-    show(out, made, &text)
-}
-
+// With what the session program prints of it.
 fn taught(out: Output, source: &[u8], recorded: &[u8]) -> Output {
     let out = tell(out.say(b": "), source, recorded);
-    four_lines(out, recorded).say(b"\n")
+    let mut text = [0u8; 4202];
+    let made = fresh_run::session_text(recorded, &mut text);
+    show(out, made, &text).say(b"\n")
 }
 
 // Each buffer has a byte more than the longest text, or session, so that no longer file is taken for its beginning.

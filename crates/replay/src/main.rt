@@ -2,7 +2,6 @@
 // text, each after its length, two bytes, low first. The counts are printed only of an input that is whole records to its end.
 use console::Input;
 use console::Output;
-use file::Session;
 use libc::STDIN_FILENO;
 use report::Text;
 ghost use Rattle.replay.specs.Parts.{Held};
@@ -68,21 +67,10 @@ fn next_part(buffer: &mut [u8]) -> Part
     body(length_of(length[0], length[1]), buffer)
 }
 
-// What the session program prints of it.
-fn told(session: &[u8], out: &mut [u8]) -> Text {
-    let mut memory = [0u8; 174];
-    match file::open_session(session, &mut memory) {
-        Session::Refused(number) => report::bad(number, out),
-        Session::Parts { fuses, steps } => {
-            let section = file::step_section(session, 174);
-            fresh_run::report(&mut memory, fuses, section, steps, out)
-        }
-    }
-}
-
+// Whether the session program prints this text of it.
 fn as_recorded(session: &[u8], text: &[u8]) -> bool {
     let mut out = [0u8; 4202];
-    let made = told(session, &mut out);
+    let made = fresh_run::session_text(session, &mut out);
     let Text::Wrote(n) = made else {
         return false;
     };

@@ -1,3 +1,1 @@
-pub mod AgainstCases
-mod Laws
 pub mod Longer

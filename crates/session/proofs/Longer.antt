@@ -13,7 +13,7 @@ use Rattle.memory.specs.Image.{bytes}
 use Rattle.rules.specs.Refusals.{longest}
 use Rattle.rules.specs.File.{count, fuseSection, stepCount, partsRefusal, sessionRefusal}
 use Rattle.report.specs.Lines.{badText}
-use Rattle.session.specs.Answer.{sessionText}
+use Rattle.fresh_run.specs.FreshRun.{sessionText}
 
 -- How much is read: 181 bytes, the steps of the longest session, and one.
 abbrev pub reads : ℕ
@@ -23,6 +23,10 @@ reads = 4278
 unfoldable overlong : ℕ → ℕ → ℕ → ℕ → ℕ
 overlong first second fuses steps =
     cond (not (eqb first bytes)) 12 (cond (not (eqb second 1)) 13 (cond (ltb 7 fuses) 14 (cond (ltb longest steps) 16 17)))
+
+-- The refusal that they give of a file.
+abbrev overlongFile : List ℕ → ℕ
+overlongFile file = overlong (count file 0) (count file 176) (fuseSection file) (stepCount file)
 
 -- Behind the check of the longest session, a length from there on differs from the counts.
 uncounted :
@@ -34,7 +38,7 @@ uncounted n steps many other h = go (ltb longest steps) refl
     go true q = refl
     go false q = rw (ne-eqb n (181 + steps) (λ e. omega (arith, e, ltb-false longest steps q)))
 
-refused : (file : List ℕ) → reads ≤ length file → sessionRefusal file bytes ≡ overlong (count file 0) (count file 176) (fuseSection file) (stepCount file)
+refused : (file : List ℕ) → reads ≤ length file → sessionRefusal file bytes ≡ overlongFile file
 unfolding sessionRefusal partsRefusal overlong
 refused file h =
     rw (le-ltb (length file) 179 (omega arith), le-ltb (length file) 181 (omega arith), uncounted (length file) (stepCount file) 16 17 h)
@@ -50,7 +54,7 @@ some-refusal first second fuses steps = go (not (eqb first bytes)) (not (eqb sec
     go false false false true = refl
     go false false false false = refl
 
-bad : (file : List ℕ) → reads ≤ length file → sessionText file ≡ badText (overlong (count file 0) (count file 176) (fuseSection file) (stepCount file))
+bad : (file : List ℕ) → reads ≤ length file → sessionText file ≡ badText (overlongFile file)
 unfolding sessionText
 bad file h = rw (refused file h, some-refusal (count file 0) (count file 176) (fuseSection file) (stepCount file))
 
@@ -69,7 +73,10 @@ first-bytes file = go (decLt reads (length file))
     go : Dec (reads < length file) → sessionText (take reads file) ≡ sessionText file
     go (yes h) =
         let long : reads ≤ length file = omega arith in
-        bad (take reads file) (omega (arith, length-take-le reads file long)) ∙
-        (rw (same-count file 0 (omega arith), same-count file 176 (omega arith), same-count file 179 (omega arith), byte file 178 (omega arith)) refl ∙
-        sym (bad file long))
+        let first = same-count file 0 (omega arith) in
+        let second = same-count file 176 (omega arith) in
+        let steps = same-count file 179 (omega arith) in
+        let fuses = byte file 178 (omega arith) in
+        let short = bad (take reads file) (omega (arith, length-take-le reads file long)) in
+        short ∙ (rw (first, second, steps, fuses) refl ∙ sym (bad file long))
     go (no h) = ap sessionText (take-all reads file (omega arith))

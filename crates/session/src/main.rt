@@ -6,9 +6,9 @@ use report::Text;
 ghost use mathlib.Core.Path.{_≡_};
 ghost use Rattle.file.specs.Opening.{sessionNumber};
 ghost use Rattle.report.specs.Buffer.{Made};
-ghost use Rattle.session.specs.Answer.{sessionText};
+ghost use Rattle.fresh_run.specs.FreshRun.{sessionText};
 
-fn number(opened: Session) -> u8
+fn refusal(opened: Session) -> u8
     ensures { λ r. ⌜ r ≡ sessionNumber opened ⌝ }
 {
     let Session::Refused(k) = opened else {
@@ -23,7 +23,7 @@ fn answer(session: &[u8], out: &mut [u8]) -> Text
     let mut memory = [0u8; 174];
     let opened = file::open_session(session, &mut memory);
     let Session::Parts { fuses, steps } = opened else {
-        return report::bad(number(opened), out);
+        return report::bad(refusal(opened), out);
     };
     let section = file::step_section(session, 174);
     fresh_run::report(&mut memory, fuses, section, steps, out)

@@ -13,18 +13,23 @@ use Rattle.fresh_run.proofs.report.Tie as tie
 
 returns : tie.Need-returns
 returns c =
-    let args = c .before .before .before .before .before .before .before .before .before .before .before .before .before .before .before .before .before .args in
-    let args-fit = c .before .before .before .before .before .before .before .before .before .before .before .before .before .before .before .before .before .fits in
-    let ran = c .before .before .before .before .before .before .before .before .before .before .run in
+    let tried = c .before .before .before .before .before in
+    let running = tried .before .before .before .before .before in
+    let started = running .before .before in
+    let entered = started .before .before .before .before .before in
+    let args = entered .args in
+    let ran = running .run in
+    let left = tried .tries-left in
     let lines = c .before .before .four-lines in
-    let f = from-fresh (now (args .memory)) (args .fuses) (now (args .steps)) (replicate 4096 0) refl (rw (c .before .before .before .before .before .before .before .before .before .before .before .before .fresh .ensures) at (ran .ensures)) in
+    let answered = rw (started .fresh .ensures) at (ran .ensures) in
+    let f = from-fresh (now (args .memory)) (args .fuses) (now (args .steps)) (replicate 4096 0) refl answered in
     let done-fits : ran .result .done < 2 ^ 64 = omega (arith, ran .ok) in
     let refusal-fits : ran .result .refusal < 2 ^ 64 = omega (arith, ran .ok) in
-    let left-fits : c .before .before .before .before .before .tries-left .result < 2 ^ 64 = omega (arith, c .before .before .before .before .before .tries-left .ok) in
-    let text = text-of _ _ _ _ (args .given) f in
+    let left-fits : left .result < 2 ^ 64 = omega (arith, left .ok) in
     let lines-told : Made (fourLines (ran .result .done) (args .given) (ran .result .refusal) _ _) _ _ _ = lines .ensures in
-    let made = rw (c .before .before .before .before .before .tries-left .ensures, text) at lines-told in
-    (made, (f .memory, never-small (not-long _ _ _ _ _ done-fits (args-fit .given .fits) refusal-fits left-fits (ran .kept .1 .1 .1 .1 .0)) (lines .ensures)))
+    let made = rw (left .ensures, text-of _ _ _ _ (args .given) f) at lines-told in
+    let short = not-long _ _ _ _ _ done-fits (entered .fits .given .fits) refusal-fits left-fits (ran .kept .1 .1 .1 .1 .0) in
+    (made, (f .memory, never-small short (lines .ensures)))
 
 pub report-spec : {M : Type 1} → statement M
 report-spec =

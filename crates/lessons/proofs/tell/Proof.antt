@@ -8,7 +8,9 @@ use Rattle.lessons.proofs.tell.Statement.{statement}
 use Rattle.lessons.proofs.tell.Tie as tie
 
 fits : (c : tie.After-known-told) → c .before .n .given .0 .0 ≤ length (c .before .before .before .before .assemble .last .1 .0)
-fits c = rw (c .before .before .before .before .assemble .kept .1 .0) (session-fits _ _ _ (sym (c .before .before .before .before .assemble .ensures .answer) ∙ c .before .n .given .1))
+fits c =
+    let assembled = c .before .before .before .before .assemble in
+    rw (assembled .kept .1 .0) (session-fits _ _ _ (sym (assembled .ensures .answer) ∙ c .before .n .given .1))
 
 array-share-prefix-session : tie.Need-array-share-prefix-session
 array-share-prefix-session c = fits (c .before)

@@ -3,7 +3,7 @@ use borrow.Author.Needs.{needs}
 use Rattle.file.specs.Opening.{sessionNumber, inMemory}
 use Rattle.report.specs.Buffer.{Made}
 use Rattle.fresh_run.specs.FreshRun.{runText}
-use Rattle.session.proofs.Laws.{refused-text, opened-text}
+use Rattle.fresh_run.proofs.SessionTexts.{refused-text, opened-text}
 use Rattle.session.proofs.answer.Statement.{statement}
 use Rattle.session.proofs.answer.Tie as tie
 
@@ -13,20 +13,21 @@ enum-told c = search needs
 returns : tie.Need-returns
 unfolding sessionNumber
 returns c =
-    let told = c .before .before .before .before .before .enum-told .given .1 in
-    let answered = sym (c .before .before .before .before .before .before .before .before .open-session .ensures .answer) ∙ told in
-    rw (c .before .before .before .before .number .ensures ∙ ap sessionNumber told, refused-text _ _ answered) at (c .before .before .bad .ensures)
+    let called = c .before .before .before .before in
+    let told = called .before .enum-told .given .1 in
+    let opened = called .before .before .before .before .open-session .ensures in
+    let refusal = called .refusal .ensures ∙ ap sessionNumber told in
+    rw (refusal, refused-text _ _ (sym (opened .answer) ∙ told)) at (c .before .before .bad .ensures)
 
 returns-2 : tie.Need-returns-2
 unfolding sessionNumber inMemory
 returns-2 c =
-    let open-session = c .before .before .before .before .before .before .before .before .before .before .before .open-session .ensures in
-    let told = c .before .before .before .before .before .before .before .before .opened .given .1 in
-    let answered = sym (open-session .answer) ∙ told in
-    let memory = rw told at (open-session .bytes) in
-    let fuses = c .before .before .before .before .before .before .before .before .opened .given .0 .0 in
-    let told : Made (runText _ fuses _ _) _ _ _ = c .before .before .before .report .ensures .0 in
-    rw (memory, c .before .before .before .before .before .before .step-section .ensures .bytes, opened-text _ _ _ answered) at told
+    let sectioned = c .before .before .before .before .before .before in
+    let parts = sectioned .before .before .opened .given in
+    let opened = sectioned .before .before .before .before .before .open-session .ensures in
+    let memory = rw (parts .1) at (opened .bytes) in
+    let lines : Made (runText _ (parts .0 .0) _ _) _ _ _ = c .before .before .before .report .ensures .0 in
+    rw (memory, sectioned .step-section .ensures .bytes, opened-text _ _ _ (sym (opened .answer) ∙ parts .1)) at lines
 
 pub answer-spec : {M : Type 1} → statement M
 answer-spec =

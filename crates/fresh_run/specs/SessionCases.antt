@@ -8,7 +8,7 @@ use lib.ListN.{take, set}
 use Rattle.rules.specs.Maker.{reset, walk, open-card}
 use Rattle.rules.specs.CaseForms.{zero, released, L1, code, sample, session as sessionBytes, endsIn}
 use Rattle.report.specs.Cases.{quoted, caseS-memory, caseS-steps, caseS-text}
-use Rattle.session.specs.Answer.{sessionText}
+use Rattle.fresh_run.specs.FreshRun.{sessionText}
 
 abbrev pub Prints : List ℕ → String → Type 0
 Prints input text = sessionText input ≡ quoted text

@@ -1,7 +1,7 @@
 use borrow.Author.Needs.{needs}
 use Rattle.file.specs.Opening.{sessionNumber}
-use Rattle.session.proofs.number.Statement.{statement}
-use Rattle.session.proofs.number.Tie as tie
+use Rattle.session.proofs.refusal.Statement.{statement}
+use Rattle.session.proofs.refusal.Tie as tie
 
 enum-told : tie.Need-enum-told
 enum-told c = search needs
@@ -14,5 +14,5 @@ returns-2 : tie.Need-returns-2
 unfolding sessionNumber
 returns-2 c = rw (c .before .opened .given .1)
 
-pub number-spec : {M : Type 1} → statement M
-number-spec = tie.close (tie.spec (λ c. search needs) enum-told returns returns-2)
+pub refusal-spec : {M : Type 1} → statement M
+refusal-spec = tie.close (tie.spec (λ c. search needs) enum-told returns returns-2)

@@ -9,8 +9,7 @@ use Rattle.report.specs.Lines.{badText}
 use Rattle.file.specs.declared.Session.the-variants.{Parts, Refused}
 use Rattle.file.specs.Opening.{sessionAnswer, handedSteps}
 use Rattle.file.proofs.Answers.{opened, barred}
-use Rattle.fresh_run.specs.FreshRun.{runText}
-use Rattle.session.specs.Answer.{sessionText}
+use Rattle.fresh_run.specs.FreshRun.{runText, sessionText}
 
 pub refused-text : (file : List ℕ) (k : ℕ) → sessionAnswer file bytes ≡ Refused k → badText k ≡ sessionText file
 unfolding sessionText
