@@ -21,7 +21,9 @@ slice-aggregate-assemble : tie.Need-slice-aggregate-assemble
 slice-aggregate-assemble c = read (c .before) .1
 
 fits : (c : tie.After-known-told2) → c .before .count .given .0 .0 ≤ length (c .before .before .before .before .assemble .last .1 .0)
-fits c = rw (c .before .before .before .before .assemble .kept .1 .0) (session-fits _ _ _ (sym (c .before .before .before .before .assemble .ensures .answer) ∙ c .before .count .given .1))
+fits c =
+    let assembled = c .before .before .before .before .assemble in
+    rw (assembled .kept .1 .0) (session-fits _ _ _ (sym (assembled .ensures .answer) ∙ c .before .count .given .1))
 
 array-share-prefix-session : tie.Need-array-share-prefix-session
 array-share-prefix-session c = fits c
