@@ -1,4 +1,4 @@
--- The words of a reason, and how long an error's line can be.
+-- The words of a refusal, and how long an error's line can be.
 use Prim.Native.Nat.{ℕ, _≤_, _<_, _^_, max}
 use Prim.Native.String.{String}
 use native.Mathlib.Omega.{arith}
@@ -13,10 +13,10 @@ use Rattle.report.proofs.Digits.{few-digits, at-most-twenty}
 use Rattle.report.proofs.Lengths.{length-numbered}
 use Rattle.text_errors.specs.ErrorLine.{table, wordsIn, words, errorLine, enough}
 
--- The words of a row are those of the reason that has its number.
+-- The words of a row are those of the refusal that has its number.
 pub in-row :
-    {l m : List ℕ} {at n reason number : ℕ} (rows : List (ℕ × String)) → reason ≡ number →
-    Put l at (bytesOf (wordsIn rows number)) n m → Put l at (bytesOf (wordsIn rows reason)) n m
+    {l m : List ℕ} {at n refusal number : ℕ} (rows : List (ℕ × String)) → refusal ≡ number →
+    Put l at (bytesOf (wordsIn rows number)) n m → Put l at (bytesOf (wordsIn rows refusal)) n m
 in-row rows e p = rw e p
 
 -- The longest words of some rows.
@@ -25,14 +25,14 @@ unfolding bytesOf
 longest [] = length (bytesOf "another refusal")
 longest ((number, said) ∷ rows) = max (length (bytesOf said)) (longest rows)
 
-within-longest : (rows : List (ℕ × String)) (reason : ℕ) → length (bytesOf (wordsIn rows reason)) ≤ longest rows
+within-longest : (rows : List (ℕ × String)) (refusal : ℕ) → length (bytesOf (wordsIn rows refusal)) ≤ longest rows
 unfolding wordsIn longest
-within-longest [] reason = omega arith
-within-longest ((number, said) ∷ rows) reason = go (eqb reason number) (within-longest rows reason)
+within-longest [] refusal = omega arith
+within-longest ((number, said) ∷ rows) refusal = go (eqb refusal number) (within-longest rows refusal)
   where
     go :
-        (t : Bool) → length (bytesOf (wordsIn rows reason)) ≤ longest rows →
-        length (bytesOf (cond t said (wordsIn rows reason))) ≤ max (length (bytesOf said)) (longest rows)
+        (t : Bool) → length (bytesOf (wordsIn rows refusal)) ≤ longest rows →
+        length (bytesOf (cond t said (wordsIn rows refusal))) ≤ max (length (bytesOf said)) (longest rows)
     go true rest = omega arith
     go false rest = omega arith
 
@@ -40,12 +40,12 @@ fifty : longest table ≡ 50
 unfolding longest table bytesOf
 fifty = refl
 
-short-words : (reason : ℕ) → length (words reason) ≤ 50
+short-words : (refusal : ℕ) → length (words refusal) ≤ 50
 unfolding words
-short-words reason = omega (arith, within-longest table reason, fifty)
+short-words refusal = omega (arith, within-longest table refusal, fifty)
 
-pub not-long : (line reason : ℕ) → line < 2 ^ 64 → reason < 256 → length (errorLine line reason) ≤ enough
+pub not-long : (line refusal : ℕ) → line < 2 ^ 64 → refusal < 256 → length (errorLine line refusal) ≤ enough
 unfolding errorLine bytesOf
-not-long line reason l k =
+not-long line refusal l k =
     simp (length-append, length-numbered)
-    (omega (arith, short-words reason, at-most-twenty line l, few-digits 2 reason (omega arith)))
+    (omega (arith, short-words refusal, at-most-twenty line l, few-digits 2 refusal (omega arith)))

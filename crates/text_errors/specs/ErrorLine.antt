@@ -7,7 +7,7 @@ use lib.Dec.{eqb}
 use Rattle.words.specs.Names.{bytesOf}
 use Rattle.report.specs.Lines.{newline, numbered}
 
--- Each reason's number and words.
+-- Each refusal's number and words.
 unfoldable pub table : List (ℕ × String)
 table =
     (77, "the text is longer than 65,536 bytes") ∷
@@ -24,18 +24,18 @@ table =
 
 -- The words of a refusal, and some for one that has no row.
 unfoldable pub wordsIn : List (ℕ × String) → ℕ → String
-wordsIn [] reason = "another refusal"
-wordsIn ((number, said) ∷ rows) reason = cond (eqb reason number) said (wordsIn rows reason)
+wordsIn [] refusal = "another refusal"
+wordsIn ((number, said) ∷ rows) refusal = cond (eqb refusal number) said (wordsIn rows refusal)
 
--- The words of a reason, as bytes.
+-- The words of a refusal, as bytes.
 unfoldable pub words : ℕ → List ℕ
-words reason = bytesOf (wordsIn table reason)
+words refusal = bytesOf (wordsIn table refusal)
 
 -- "`line N: words (number)`"
 unfoldable pub errorLine : ℕ → ℕ → List ℕ
-errorLine line reason =
+errorLine line refusal =
     numbered (bytesOf "line ") line ++
-    (bytesOf ": " ++ (words reason ++ (numbered (bytesOf " (") reason ++ (bytesOf ")" ++ newline))))
+    (bytesOf ": " ++ (words refusal ++ (numbered (bytesOf " (") refusal ++ (bytesOf ")" ++ newline))))
 
 -- How much room is enough for any line: the longest words, a number of at most 20 digits, one of at most 3, and what stands around them.
 abbrev pub enough : ℕ

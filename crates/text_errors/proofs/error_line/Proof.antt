@@ -12,19 +12,19 @@ use Rattle.text_errors.proofs.error_line.Statement.{statement}
 use Rattle.text_errors.proofs.error_line.Tie as tie
 
 -- The line stands at the start of the array.
-fits : (c : tie.Start) → length (errorLine (c .args .line) (c .args .reason)) ≤ enough
+fits : (c : tie.Start) → length (errorLine (c .args .line) (c .args .refusal)) ≤ enough
 fits c = not-long _ _ (c .fits .line .fits) (omega (arith, c .fits))
 
 count :
     (c : tie.After-put-line) →
     let args = c .before .before .before .args in
-    c .put-line .result ≡ length (errorLine (args .line) (args .reason))
+    c .put-line .result ≡ length (errorLine (args .line) (args .refusal))
 count c = whole (fits (c .before .before .before)) (c .put-line .ensures)
 
 returns : tie.Need-returns
 returns c =
     let start = c .before .before .before .before .before in
-    let line = errorLine (start .args .line) (start .args .reason) in
+    let line = errorLine (start .args .line) (start .args .refusal) in
     let less : length (start .args .out .now) < length line = omega (arith, count (c .before .before)) in
     let small = too-small less in
     (small, never-small (fits start) small)
