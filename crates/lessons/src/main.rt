@@ -1,4 +1,5 @@
-// The sessions to learn from: what each shows, that its text assembles to the recorded bytes, and its four lines. Then each error of a text.
+// The sessions to learn from: what each shows, that its text assembles to the recorded bytes, and its four lines.
+// Then each error of a text.
 use console::Input;
 use console::Output;
 use report::Text;

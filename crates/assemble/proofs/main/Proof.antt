@@ -31,7 +31,9 @@ array-share-prefix-session c = fits c
 slice-aggregate-say : tie.Need-slice-aggregate-say
 slice-aggregate-say c = sym (length-take-le _ _ (fits (c .before)))
 
-within : (c : tie.After-known-told4) → c .before .length .given .0 .0 ≤ length (c .before .before .before .before .error-line .last .1 .1 .0)
+within :
+    (c : tie.After-known-told4) →
+    c .before .length .given .0 .0 ≤ length (c .before .before .before .before .error-line .last .1 .1 .0)
 within c =
     let said = c .before .before .before .before .error-line in
     omega (arith, written-fits _ (said .ensures .0) (c .before .length .given .1), said .kept .1 .1 .0)
