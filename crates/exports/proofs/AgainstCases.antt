@@ -5,7 +5,7 @@ use Rattle.rules.specs.CaseForms.{sample, cardFile, session}
 use Rattle.rules.specs.Computing.{the-card}
 use Rattle.card.specs.Contracts.{flagsOf}
 use Rattle.maker.specs.Act.{made, inBuffer}
-use Rattle.file.specs.Opening.{cardNumber, sessionNumber, cardAnswer, sessionAnswer, inMemory, handedSteps}
+use Rattle.file.specs.Opening.{refusalInCard, refusalInSession, cardAnswer, sessionAnswer, inMemory, handedSteps}
 use Rattle.exports.specs.Rendered.{flagBytes, madeOf, cardFileOf, sessionOf}
 use Rattle.exports.specs.Cases.{Steps-told, Flags-told, Acts-told, Files-told}
 
@@ -26,7 +26,7 @@ acts-told = (
 )
 
 pub files-told : Files-told
-unfolding sample cardFile session cardNumber sessionNumber cardAnswer sessionAnswer inMemory handedSteps cardFileOf sessionOf
+unfolding sample cardFile session refusalInCard refusalInSession cardAnswer sessionAnswer inMemory handedSteps cardFileOf sessionOf
 files-told = (
   record { answer = refl; bytes = refl },
   record { answer = refl; bytes = refl },

@@ -13,7 +13,7 @@ use Rattle.rules.specs.File.{fuseSection, stepCount, stepSection, sessionRefusa
 use Rattle.file.specs.declared.CardFile.{CardFile}
 use Rattle.file.specs.declared.Session.{Session}
 use Rattle.file.specs.declared.Session.the-variants.{Parts, Refused as Barred}
-use Rattle.file.specs.Opening.{cardNumber, sessionNumber, sessionSteps, sessionAnswer, inMemory, handedSteps, CardOpened, SessionOpened}
+use Rattle.file.specs.Opening.{refusalInCard, refusalInSession, sessionSteps, sessionAnswer, inMemory, handedSteps, CardOpened, SessionOpened}
 use Rattle.exports.specs.declared.acts.ZhavMade.{ZhavMade}
 use Rattle.exports.specs.declared.openers.ZhavCard.{ZhavCard}
 use Rattle.exports.specs.declared.openers.ZhavSession.{ZhavSession}
@@ -41,7 +41,7 @@ pub card-told :
 card-told {file = file} {memory = memory} opened told =
     record {
       answer = told ∙ ap cardFileOf (opened .answer);
-      bytes = opened .bytes ∙ ap (λ (s : CardFile). inMemory (cardNumber s) file memory) (opened .answer);
+      bytes = opened .bytes ∙ ap (λ (s : CardFile). inMemory (refusalInCard s) file memory) (opened .answer);
     }
 
 -- The steps of an opened session are the file's step section, none where refused.
@@ -65,6 +65,6 @@ session-told {file = file} {memory = memory} opened told =
     let answer : _ ≡ sessionOf (sessionAnswer file (length memory)) = told ∙ ap sessionOf (opened .answer) in
     record {
       answer = answer;
-      bytes = opened .bytes ∙ ap (λ (s : Session). inMemory (sessionNumber s) file memory) (opened .answer);
+      bytes = opened .bytes ∙ ap (λ (s : Session). inMemory (refusalInSession s) file memory) (opened .answer);
       section = ap (λ (r : ZhavSession). take (r .steps) (drop (r .first) file)) answer ∙ section-of file (length memory);
     }

@@ -12,7 +12,7 @@ use Rattle.maker.specs.Act.{refusalIn as actRefused, countOf}
 use Rattle.file.specs.declared.CardFile.{CardFile}
 use Rattle.file.specs.declared.Session.{Session}
 use Rattle.file.specs.declared.Session.the-variants as session
-use Rattle.file.specs.Opening.{cardNumber, cardFuses, sessionNumber, sessionFuses, sessionSteps}
+use Rattle.file.specs.Opening.{refusalInCard, cardFuses, refusalInSession, sessionFuses, sessionSteps}
 use Rattle.exports.specs.declared.steps.ZhavStepped.{ZhavStepped}
 use Rattle.exports.specs.declared.steps.ZhavFlags.{ZhavFlags}
 use Rattle.exports.specs.declared.acts.ZhavMade.{ZhavMade}
@@ -44,8 +44,8 @@ madeOf a = record { count = countOf a; refusal = actRefused a }
 
 -- A card file: the fuse byte.
 unfoldable pub cardFileOf : CardFile → ZhavCard
-unfolding cardFuses cardNumber
-cardFileOf c = record { fuses = cardFuses c; refusal = cardNumber c }
+unfolding cardFuses refusalInCard
+cardFileOf c = record { fuses = cardFuses c; refusal = refusalInCard c }
 
 -- A session: the step section as the place where it starts, after the counts, the memory and the fuses, and its count.
 unfoldable pub stepsFrom : Session → ℕ
@@ -53,5 +53,5 @@ stepsFrom (session.Parts fuses steps) = 181
 stepsFrom (session.Refused k) = 0
 
 unfoldable pub sessionOf : Session → ZhavSession
-unfolding stepsFrom sessionSteps sessionFuses sessionNumber
-sessionOf s = record { first = stepsFrom s; steps = sessionSteps s; fuses = sessionFuses s; refusal = sessionNumber s }
+unfolding stepsFrom sessionSteps sessionFuses refusalInSession
+sessionOf s = record { first = stepsFrom s; steps = sessionSteps s; fuses = sessionFuses s; refusal = refusalInSession s }

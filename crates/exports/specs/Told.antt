@@ -5,7 +5,7 @@ use mathlib.Core.Path.{_≡_}
 use mathlib.Core.List.{List}
 use lib.ListN.{length, take, drop}
 use Rattle.maker.specs.Act.{made, inBuffer}
-use Rattle.file.specs.Opening.{cardNumber, sessionNumber, cardAnswer, sessionAnswer, inMemory, handedSteps}
+use Rattle.file.specs.Opening.{refusalInCard, refusalInSession, cardAnswer, sessionAnswer, inMemory, handedSteps}
 use Rattle.exports.specs.declared.acts.ZhavMade.{ZhavMade}
 use Rattle.exports.specs.declared.openers.ZhavCard.{ZhavCard}
 use Rattle.exports.specs.declared.openers.ZhavSession.{ZhavSession}
@@ -19,9 +19,9 @@ pub record ActTold (refused : ℕ) (steps buffer : List ℕ) (r : ZhavMade) (aft
 -- The openers: their numbers and the memory buffer. A session's numbers give the step section as that part of the file, the empty part if refused.
 pub record CardTold (file memory : List ℕ) (r : ZhavCard) (after : List ℕ) : Type 0 where
   pub answer : r ≡ cardFileOf (cardAnswer file (length memory))
-  pub bytes : after ≡ inMemory (cardNumber (cardAnswer file (length memory))) file memory
+  pub bytes : after ≡ inMemory (refusalInCard (cardAnswer file (length memory))) file memory
 
 pub record SessionTold (file memory : List ℕ) (r : ZhavSession) (after : List ℕ) : Type 0 where
   pub answer : r ≡ sessionOf (sessionAnswer file (length memory))
-  pub bytes : after ≡ inMemory (sessionNumber (sessionAnswer file (length memory))) file memory
+  pub bytes : after ≡ inMemory (refusalInSession (sessionAnswer file (length memory))) file memory
   pub section : take (r .steps) (drop (r .first) file) ≡ handedSteps file (length memory)

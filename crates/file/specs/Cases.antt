@@ -9,7 +9,7 @@ use Rattle.rules.specs.CaseForms.{sample, cardFile as cardBytes, session as ses
 use Rattle.file.specs.declared.CardFile.the-variants as card
 use Rattle.file.specs.declared.Session.{Session}
 use Rattle.file.specs.declared.Session.the-variants as session
-use Rattle.file.specs.Opening.{cardNumber, sessionNumber, cardFuses, sessionFuses, sessionSteps, CardOpened, SessionOpened, Handed}
+use Rattle.file.specs.Opening.{refusalInCard, refusalInSession, cardFuses, sessionFuses, sessionSteps, CardOpened, SessionOpened, Handed}
 
 -- The lent memory buffer, before anything is opened into it.
 unfoldable pub buffer : List ℕ
@@ -69,15 +69,15 @@ Sessions-open =
 -- "Opening answers either the parts or a number": 0 is the number of the parts, and beside a refusal every value is 0.
 abbrev pub Answers-told : Type 0
 Answers-told =
-    (cardNumber (card.Card 5) ≡ 0) ×
+    (refusalInCard (card.Card 5) ≡ 0) ×
     (cardFuses (card.Card 5) ≡ 5) ×
-    (cardNumber (card.Refused 11) ≡ 11) ×
-    (cardNumber (card.Refused 14) ≡ 14) ×
+    (refusalInCard (card.Refused 11) ≡ 11) ×
+    (refusalInCard (card.Refused 14) ≡ 14) ×
     (cardFuses (card.Refused 14) ≡ 0) ×
-    (sessionNumber (session.Parts 5 3) ≡ 0) ×
+    (refusalInSession (session.Parts 5 3) ≡ 0) ×
     (sessionFuses (session.Parts 5 3) ≡ 5) ×
     (sessionSteps (session.Parts 5 3) ≡ 3) ×
-    (sessionNumber (session.Refused 11) ≡ 11) ×
-    (sessionNumber (session.Refused 16) ≡ 16) ×
+    (refusalInSession (session.Refused 11) ≡ 11) ×
+    (refusalInSession (session.Refused 16) ≡ 16) ×
     (sessionFuses (session.Refused 16) ≡ 0) ×
     (sessionSteps (session.Refused 16) ≡ 0)

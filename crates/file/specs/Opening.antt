@@ -13,13 +13,13 @@ use Rattle.file.specs.declared.Session.{Session}
 use Rattle.file.specs.declared.Session.the-variants as session
 
 -- 01's number of an answer, 0 where it is none.
-unfoldable pub cardNumber : CardFile → ℕ
-cardNumber (card.Card fuses) = 0
-cardNumber (card.Refused k) = k
+unfoldable pub refusalInCard : CardFile → ℕ
+refusalInCard (card.Card fuses) = 0
+refusalInCard (card.Refused k) = k
 
-unfoldable pub sessionNumber : Session → ℕ
-sessionNumber (session.Parts fuses steps) = 0
-sessionNumber (session.Refused k) = k
+unfoldable pub refusalInSession : Session → ℕ
+refusalInSession (session.Parts fuses steps) = 0
+refusalInSession (session.Refused k) = k
 
 -- And its values, 0 where refused.
 unfoldable pub cardFuses : CardFile → ℕ
@@ -54,11 +54,11 @@ inMemory number file memory = cond (eqb number 0) (memorySection file) memory
 
 -- The openers' promises: every byte of the memory buffer, and the answer.
 pub record CardOpened (file memory : List ℕ) (r : CardFile) (after : List ℕ) : Type 0 where
-  pub bytes : after ≡ inMemory (cardNumber r) file memory
+  pub bytes : after ≡ inMemory (refusalInCard r) file memory
   pub answer : r ≡ cardAnswer file (length memory)
 
 pub record SessionOpened (file memory : List ℕ) (r : Session) (after : List ℕ) : Type 0 where
-  pub bytes : after ≡ inMemory (sessionNumber r) file memory
+  pub bytes : after ≡ inMemory (refusalInSession r) file memory
   pub answer : r ≡ sessionAnswer file (length memory)
 
 -- "The step section is handed back as that part of the caller's bytes, the empty part if refused."

@@ -4,12 +4,12 @@ use console::Output;
 use file::Session;
 use report::Text;
 ghost use mathlib.Core.Path.{_≡_};
-ghost use Rattle.file.specs.Opening.{sessionNumber};
+ghost use Rattle.file.specs.Opening.{refusalInSession};
 ghost use Rattle.report.specs.Buffer.{Made};
 ghost use Rattle.fresh_run.specs.FreshRun.{sessionText};
 
 fn refusal(opened: Session) -> u8
-    ensures { λ r. ⌜ r ≡ sessionNumber opened ⌝ }
+    ensures { λ r. ⌜ r ≡ refusalInSession opened ⌝ }
 {
     let Session::Refused(k) = opened else {
         return 0;

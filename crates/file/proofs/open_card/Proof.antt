@@ -4,13 +4,13 @@ use borrow.Author.Needs.{needs}
 use borrow.Author.Tests.{eq-eqb, ne-eqb}
 use denote.Ref.{now}
 use lib.ListN.{length}
-use Rattle.file.specs.Opening.{cardNumber, cardAnswer, inMemory}
+use Rattle.file.specs.Opening.{refusalInCard, cardAnswer, inMemory}
 use Rattle.file.proofs.Refusals.{Whole, whole-card}
 use Rattle.file.proofs.open_card.Statement.{statement}
 use Rattle.file.proofs.open_card.Tie as tie
 
 returns : tie.Need-returns
-unfolding cardAnswer cardNumber inMemory
+unfolding cardAnswer refusalInCard inMemory
 returns c =
     let d = ne-eqb _ 0 (c .if1 .taken) in
     record { bytes = rw d refl; answer = rw (← c .before .card-refusal .ensures, d) refl }
@@ -22,7 +22,7 @@ sound :
 sound c = whole-card _ _ (sym (c .before .card-refusal .ensures) ∙ c .if1 .left)
 
 returns-2 : tie.Need-returns-2
-unfolding cardAnswer cardNumber inMemory
+unfolding cardAnswer refusalInCard inMemory
 returns-2 c =
     let copied = c .before .before .before in
     let checked = copied .before .before in

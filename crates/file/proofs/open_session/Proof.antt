@@ -4,13 +4,13 @@ use borrow.Author.Needs.{needs}
 use borrow.Author.Tests.{eq-eqb, ne-eqb}
 use denote.Ref.{now}
 use lib.ListN.{length}
-use Rattle.file.specs.Opening.{sessionNumber, sessionAnswer, inMemory}
+use Rattle.file.specs.Opening.{refusalInSession, sessionAnswer, inMemory}
 use Rattle.file.proofs.Refusals.{WholeSession, whole-session}
 use Rattle.file.proofs.open_session.Statement.{statement}
 use Rattle.file.proofs.open_session.Tie as tie
 
 returns : tie.Need-returns
-unfolding sessionAnswer sessionNumber inMemory
+unfolding sessionAnswer refusalInSession inMemory
 returns c =
     let d = ne-eqb _ 0 (c .if1 .taken) in
     record { bytes = rw d refl; answer = rw (← c .before .session-refusal .ensures, d) refl }
@@ -22,7 +22,7 @@ sound :
 sound c = whole-session _ _ (sym (c .before .session-refusal .ensures) ∙ c .if1 .left)
 
 returns-2 : tie.Need-returns-2
-unfolding sessionAnswer sessionNumber inMemory
+unfolding sessionAnswer refusalInSession inMemory
 returns-2 c =
     let copied = c .before .before .before .before in
     let checked = copied .before .before in

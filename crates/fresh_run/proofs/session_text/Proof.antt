@@ -1,6 +1,6 @@
 use mathlib.Core.Path.{sym, _∙_}
 use borrow.Author.Needs.{needs}
-use Rattle.file.specs.Opening.{sessionNumber, inMemory}
+use Rattle.file.specs.Opening.{refusalInSession, inMemory}
 use Rattle.report.specs.Buffer.{Made}
 use Rattle.fresh_run.specs.FreshRun.{runText}
 use Rattle.fresh_run.proofs.SessionTexts.{refused-text, opened-text}
@@ -8,14 +8,14 @@ use Rattle.fresh_run.proofs.session_text.Statement.{statement}
 use Rattle.fresh_run.proofs.session_text.Tie as tie
 
 returns : tie.Need-returns
-unfolding sessionNumber
+unfolding refusalInSession
 returns c =
     let told = c .before .before .before .before .before .refusal .given .1 in
     let opened = c .before .before .before .before .before .before .before .before .open-session .ensures in
     rw (refused-text _ _ (sym (opened .answer) ∙ told)) at (c .before .before .bad .ensures)
 
 returns-2 : tie.Need-returns-2
-unfolding sessionNumber inMemory
+unfolding refusalInSession inMemory
 returns-2 c =
     let sectioned = c .before .before .before .before .before .before in
     let parts = sectioned .before .before .fuses .given in

@@ -1,6 +1,6 @@
 use mathlib.Core.Path.{sym, ap, _∙_}
 use borrow.Author.Needs.{needs}
-use Rattle.file.specs.Opening.{sessionNumber, inMemory}
+use Rattle.file.specs.Opening.{refusalInSession, inMemory}
 use Rattle.report.specs.Buffer.{Made}
 use Rattle.fresh_run.specs.FreshRun.{runText}
 use Rattle.fresh_run.proofs.SessionTexts.{refused-text, opened-text}
@@ -11,16 +11,16 @@ enum-told : tie.Need-enum-told
 enum-told c = search needs
 
 returns : tie.Need-returns
-unfolding sessionNumber
+unfolding refusalInSession
 returns c =
     let called = c .before .before .before .before in
     let told = called .before .enum-told .given .1 in
     let opened = called .before .before .before .before .open-session .ensures in
-    let refusal = called .refusal .ensures ∙ ap sessionNumber told in
+    let refusal = called .refusal .ensures ∙ ap refusalInSession told in
     rw (refusal, refused-text _ _ (sym (opened .answer) ∙ told)) at (c .before .before .bad .ensures)
 
 returns-2 : tie.Need-returns-2
-unfolding sessionNumber inMemory
+unfolding refusalInSession inMemory
 returns-2 c =
     let sectioned = c .before .before .before .before .before .before in
     let parts = sectioned .before .before .opened .given in

@@ -1,5 +1,5 @@
 use borrow.Author.Needs.{needs}
-use Rattle.file.specs.Opening.{sessionNumber}
+use Rattle.file.specs.Opening.{refusalInSession}
 use Rattle.session.proofs.refusal.Statement.{statement}
 use Rattle.session.proofs.refusal.Tie as tie
 
@@ -7,11 +7,11 @@ enum-told : tie.Need-enum-told
 enum-told c = search needs
 
 returns : tie.Need-returns
-unfolding sessionNumber
+unfolding refusalInSession
 returns c = rw (c .enum-told .given .1)
 
 returns-2 : tie.Need-returns-2
-unfolding sessionNumber
+unfolding refusalInSession
 returns-2 c = rw (c .before .opened .given .1)
 
 pub refusal-spec : {M : Type 1} → statement M
