@@ -12,7 +12,7 @@ use Rattle.file.specs.declared.CardFile.the-variants as card
 use Rattle.file.specs.declared.Session.{Session}
 use Rattle.file.specs.declared.Session.the-variants as session
 
--- 01's number of an answer, 0 where it is none.
+-- The refusal in an answer, 0 where it is none.
 unfoldable pub refusalInCard : CardFile → ℕ
 refusalInCard (card.Card fuses) = 0
 refusalInCard (card.Refused k) = k
@@ -50,7 +50,7 @@ sessionAnswer file room =
 -- "Accepted: the lent buffer holds the memory section, nothing else changes. Refused: no buffer changes."
 unfoldable pub inMemory : ℕ → List ℕ → List ℕ → List ℕ
 unfolding memorySection
-inMemory number file memory = cond (eqb number 0) (memorySection file) memory
+inMemory refused file memory = cond (eqb refused 0) (memorySection file) memory
 
 -- The openers' promises: every byte of the memory buffer, and the answer.
 pub record CardOpened (file memory : List ℕ) (r : CardFile) (after : List ℕ) : Type 0 where
