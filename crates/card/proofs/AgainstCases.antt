@@ -3,9 +3,8 @@ use mathlib.Core.Path.{refl}
 use Rattle.rules.specs.Card.{refusalIn, pinIn}
 use Rattle.rules.specs.Computing.{the-card}
 use Rattle.rules.specs.CaseForms.{sample}
-use Rattle.volatile.specs.Packed.{packed, unpacked}
-use Rattle.card.specs.Contracts.{stepLeaves, stepAnswer, walkOf, runLeaves, runAnswers, runRefused, flagsOf, flagsRefused, flagsHeld}
-use Rattle.card.specs.Cases.{Steps-answer, Steps-told, Walks, Runs-answer, Flags-told}
+use Rattle.card.specs.Contracts.{stepLeaves, stepAnswer, runLeaves, runAnswers, runRefused, flagsOf, flagsRefused, flagsHeld}
+use Rattle.card.specs.Cases.{Steps-answer, Steps-told, Runs-answer, Flags-told}
 
 pub steps-answer : Steps-answer
 unfolding the-card sample stepLeaves stepAnswer
@@ -34,10 +33,6 @@ steps-told = (
   record { card = refl; pin = refl; refusal = refl },
   record { card = refl; pin = refl; refusal = refl },
 )
-
-pub walks : Walks
-unfolding the-card sample walkOf packed unpacked
-walks = (refl, refl, refl, refl, refl, refl, refl, refl, refl, refl, refl)
 
 pub runs-answer : Runs-answer
 unfolding the-card sample runLeaves runAnswers runRefused

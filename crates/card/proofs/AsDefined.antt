@@ -10,7 +10,7 @@ use borrow.Author.Tests.{le-ltb}
 use Rattle.rules.specs.Halves.{Card}
 use Rattle.rules.specs.Refusals.{stateRefusal, before-a-run, runRefusal}
 use Rattle.rules.specs.Card.{Ran, ended, stepped, run, checkedStep, checkedAnswer, checkedRun}
-use Rattle.volatile.specs.Packed.{packed, unpacked, Given, cardOf, handedBack, madeUpWord}
+use Rattle.volatile.specs.Packed.{Given, cardOf, handedBack, madeUpWord}
 use Rattle.volatile.proofs.Packing.{packed-unpacked}
 use Rattle.refusals.specs.Before.{givenRefusal, givenRunRefusal}
 use Rattle.card.specs.Contracts.{stepLeaves, stepAnswer, runLeaves, runAnswers, runRefused}

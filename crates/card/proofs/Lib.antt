@@ -1,15 +1,8 @@
 pub mod AgainstCases
-pub mod Fuses
 pub mod Ones
-pub mod Turned
-pub mod LineMasks
-pub mod EdgeRefusals
-pub mod ByLine
 pub mod HandedOn
-pub mod Walks
 pub mod Loop
 pub mod Answers
 pub mod WithoutLoop
-pub mod AtOnce
 pub mod AsDefined
 pub mod Determined

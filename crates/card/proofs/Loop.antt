@@ -4,27 +4,27 @@ use native.Mathlib.Omega.{arith}
 use native.Mathlib.Numerals.{add-one}
 use mathlib.Core.Path.{_≡_, refl, sym, ap, _∙_}
 use mathlib.Core.Bool.{Bool, true, false, cond, not}
-use mathlib.Core.List.{List, [], _∷_, _++_, append-nil}
+use mathlib.Core.List.{List, [], _∷_, append-nil}
 use lib.Dec.{eqb, ltb}
 use lib.ListN.{length, getD, set, take, drop, length-set, take-append-drop, drop-of-length-le}
 use lib.Seq.{drop-cons, take-suc, take-suc-set, drop-set-lt, drop-drop, length-take-le}
-use borrow.Author.Tests.{eqb-true, eq-eqb, ne-eqb, le-ltb, ltb-false, not-false}
+use borrow.Author.Tests.{eqb-true, ne-eqb, le-ltb, ltb-false}
 use Rattle.memory.specs.Image.{bytes}
 use Rattle.rules.specs.Halves as Halves
 use Rattle.rules.specs.Halves.{Card}
-use Rattle.rules.specs.Refusals.{refusal, madeUp, before-a-run}
+use Rattle.rules.specs.Refusals.{refusal, madeUp}
 use Rattle.rules.specs.Steps.{next, pin}
-use Rattle.rules.specs.Card.{Ran, added, ended, run, answersIn}
+use Rattle.rules.specs.Card.{ended, run, answersIn}
 use Rattle.theorems.proofs.Tests.{peel}
 use Rattle.theorems.proofs.Runs.{behind, run-append}
 use Rattle.theorems.proofs.Soundness.{SoundCard, let-pass, passes, unmade, sound-stays-sound}
 use Rattle.volatile.specs.Packed.{packed, unpacked, Given, given, cardOf, handedBack, madeUpWord}
 use Rattle.volatile.proofs.Packing.{unpacked-packed, packed-unpacked, packed-small}
 use Rattle.refusals.specs.Before.{givenRefusal, givenRunRefusal}
-use Rattle.card.specs.declared.Ran as Declared
-use Rattle.card.specs.Moves.{Ready, Steps}
+use Rattle.edge_laws.specs.Inner.{Ready, Steps}
 use Rattle.card.specs.Contracts.{runLeaves, runAnswers, runRefused, RunAnswered}
-use Rattle.card.proofs.ByLine.{flags-small, sound-half}
+use Rattle.walk.proofs.Passed.{ready-at}
+use Rattle.edge_laws.proofs.ByLine.{flags-small, sound-half}
 
 -- A card that a step hands on stands for the card that the definitions give.
 pub handed-on : (c : Card) → cardOf (handedBack c) ≡ c
@@ -64,20 +64,6 @@ module _ {g left : Given} {p n shown k : ℕ} (steps-to : Steps g p n left shown
   one-more : run (cardOf g) (n ∷ []) ≡ record { card = cardOf left; answers = shown ∷ []; refused = 0 }
   unfolding run
   one-more = rw (none, steps-to .accepted z .1, card-after)
-
--- A card that is refused by nothing is ready.
-pub ready-at : (g : Given) (p : ℕ) → givenRefusal g ≡ 0 → p ≡ pin (cardOf g) → Ready g p
-unfolding givenRefusal
-ready-at g p z e =
-    let a = peel (not (eqb (length (g .memory)) bytes)) 9 _ z in
-    let b = peel (ltb 7 (g .fuses)) 13 _ (a .1) in
-    let d = peel (madeUpWord (g .half)) 8 0 (b .1) in
-    record {
-      sized = eqb-true (length (g .memory)) bytes (not-false (eqb (length (g .memory)) bytes) (a .0));
-      fused = ltb-false 7 (g .fuses) (b .0);
-      sound = d .0;
-      pinned = e;
-    }
 
 -- A run that is refused by nothing: neither is the card, and there is room.
 none-of : (k r : ℕ) → cond (not (eqb k 0)) k r ≡ 0 → k ≡ 0

@@ -4,27 +4,20 @@
 -- A half by its levels, its address and its flags. Levels are sums as in 01: VCC 1, RST 2, CLK 4, PGM 8, I/O 16, FUS 32; so are flags:
 -- SV 1, P1 2, R1 4, programming 8, latch 16, E1 32, match 64; no card has 128. Of `sample` bit 0 is 0, bits 1, 96 and 1240 are 1.
 use Prim.Native.Nat.{ℕ}
-use mathlib.Core.Path.{_≡_}
 use mathlib.Core.Bool.{true, false}
 use mathlib.Core.List.{List, [], _∷_}
 use lib.ListN.{take, replicate, set}
 use Rattle.rules.specs.declared.Answer.{Answer}
 use Rattle.rules.specs.declared.Answer.the-variants.{Pin, Refused}
 use Rattle.rules.specs.CaseForms.{zero, one, released, no-answer, sample}
-use Rattle.volatile.specs.declared.Volatile.{Volatile}
 use Rattle.volatile.specs.Packed.{Given, given}
 use Rattle.volatile.specs.Cases.{Gives, half}
-use Rattle.card.specs.declared.Walked.{Walked}
 use Rattle.card.specs.declared.FlagsAnswer.the-variants.{Held, Refused as Barred}
-use Rattle.card.specs.Contracts.{StepAnswered, StepTold, plainAt, noWalk, walkOf, RunAnswered, flagsOf, flagsRefused, flagsHeld}
+use Rattle.card.specs.Contracts.{StepAnswered, StepTold, RunAnswered, flagsOf, flagsRefused, flagsHeld}
 
 -- Of the first card the step makes the second and gets this answer.
 abbrev pub StepsTo : Given → ℕ → Given → Answer → Type 0
 StepsTo c n d x = StepAnswered c n d x
-
--- A half and a pin.
-abbrev pub walk : Volatile → ℕ → Walked
-walk v p = record { volatile = v; pin = p }
 
 -- "A refused step changes nothing and gives back the state as it came, with the number, marked as a refusal, in place of a pin answer".
 abbrev pub StepRefused : Given → ℕ → ℕ → Type 0
@@ -59,65 +52,6 @@ Steps-told =
     StepTold (given sample 7 (half 23 1504 9)) 19 (given sample 3 (half 19 1504 1)) released 0 ×
     StepTold (given sample 5 (half 17 0 7)) 22 (given sample 5 (half 17 0 7)) no-answer 2 ×
     StepTold (given sample 5 (half 21 96 200)) 17 (given sample 5 (half 21 96 200)) no-answer 9
-
--- A walk: CLK's rise and fall where the pin shows a bit and where it shows nothing; no other step is one.
-abbrev pub Walks : Type 0
-Walks =
-    Gives (λ v. walkOf (given sample 5 v) 21)
-    ((half 17 0 0, walk (half 21 0 16) zero) ∷
-    (half 17 1 5, walk (half 21 1 21) one) ∷
-    (half 17 79 0, walk (half 21 79 16) one) ∷
-    (half 17 104 0, noWalk (half 17 104 0)) ∷
-    (half 17 1519 0, noWalk (half 17 1519 0)) ∷
-    []) ×
-    Gives (λ v. walkOf (given sample 5 v) 17)
-    ((half 21 0 16, walk (half 17 1 0) one) ∷
-    (half 21 0 7, walk (half 17 1 7) one) ∷
-    (half 21 1198 0, noWalk (half 21 1198 0)) ∷
-    (half 21 500 16, walk (half 17 501 0) released) ∷
-    (half 21 500 17, walk (half 17 501 1) one) ∷
-    (half 21 1391 0, walk (half 17 1392 0) released) ∷
-    -- Into the code, to 104, 176, 177, 1232 and 1360, past the last; with match, in programming, of a made-up half.
-    (half 21 79 0, noWalk (half 21 79 0)) ∷
-    (half 21 103 0, noWalk (half 21 103 0)) ∷
-    (half 21 175 0, noWalk (half 21 175 0)) ∷
-    (half 21 176 0, noWalk (half 21 176 0)) ∷
-    (half 21 1231 0, noWalk (half 21 1231 0)) ∷
-    (half 21 1359 0, noWalk (half 21 1359 0)) ∷
-    (half 21 1519 0, noWalk (half 21 1519 0)) ∷
-    (half 21 100 64, noWalk (half 21 100 64)) ∷
-    (half 21 0 8, noWalk (half 21 0 8)) ∷
-    (half 17 0 16, noWalk (half 17 0 16)) ∷
-    []) ×
-    -- CLK with RST high, with PGM high, with VCC off, with a bit that is no line; other lines, no line.
-    (walkOf (given sample 5 (half 19 0 0)) 23 ≡ noWalk (half 19 0 0)) ×
-    (walkOf (given sample 5 (half 25 0 0)) 29 ≡ noWalk (half 25 0 0)) ×
-    (walkOf (given sample 5 (half 16 0 0)) 20 ≡ noWalk (half 16 0 0)) ×
-    (walkOf (given sample 5 (half 81 0 0)) 85 ≡ noWalk (half 81 0 0)) ×
-    Gives (walkOf (given sample 5 (half 17 0 0)))
-    ((19, noWalk (half 17 0 0)) ∷ (1, noWalk (half 17 0 0)) ∷ (5, noWalk (half 17 0 0)) ∷ (17, noWalk (half 17 0 0)) ∷ []) ×
-    Gives plainAt
-    ((79, true) ∷
-    (80, false) ∷
-    (104, false) ∷
-    (105, true) ∷
-    (175, true) ∷
-    (176, false) ∷
-    (177, false) ∷
-    (178, true) ∷
-    (1198, true) ∷
-    (1199, false) ∷
-    (1232, false) ∷
-    (1233, true) ∷
-    (1359, true) ∷
-    (1360, false) ∷
-    (1361, true) ∷
-    (1519, true) ∷
-    (1520, false) ∷
-    []) ×
-    (walkOf (given sample 7 (half 17 0 0)) 21 ≡ walk (half 21 0 16) zero) ×
-    (walkOf (given sample 8 (half 17 0 0)) 21 ≡ noWalk (half 17 0 0)) ×
-    (walkOf (given (take 173 sample) 5 (half 17 0 0)) 21 ≡ noWalk (half 17 0 0))
 
 -- Of the first card the steps, with these bytes for the answers, make the second; so many are done, this is the refusal, and those are the
 -- bytes afterwards.

@@ -2,7 +2,6 @@
 use crate::masks;
 use crate::moved;
 use crate::moved::Moved;
-use crate::walk;
 use memory::is_set;
 use volatile::Volatile;
 ghost use mathlib.Core.Path.{_≡_};
@@ -13,7 +12,8 @@ ghost use Rattle.memory.specs.Image.{digit};
 ghost use Rattle.rules.specs.Match.{following};
 ghost use Rattle.rules.specs.Steps.{clocked};
 ghost use Rattle.volatile.specs.Packed.{given, cardOf};
-ghost use Rattle.card.specs.Moves.{Ready, Moves, movedTo};
+ghost use Rattle.edge_laws.specs.Inner.{Ready};
+ghost use Rattle.card.specs.Moves.{Moves, movedTo};
 
 // The address goes up by one, 1519 going to 0.
 pub(crate) fn following(a: u32) -> u32

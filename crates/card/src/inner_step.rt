@@ -1,12 +1,13 @@
 // A step of a card whose state is sound and whose pin is at hand.
 use crate::edges;
+use crate::in_programming;
 use crate::moved;
 use crate::moved::Left;
-use crate::programming;
 use memory::is_set;
 use volatile::Volatile;
 ghost use Rattle.volatile.specs.Packed.{given};
-ghost use Rattle.card.specs.Moves.{Ready, Leaves};
+ghost use Rattle.edge_laws.specs.Inner.{Ready};
+ghost use Rattle.card.specs.Moves.{Leaves};
 
 // While programming is under way image and fuses may change, else they stay.
 pub(crate) fn step(v: Volatile, image: &mut [u8], fuses: u8, pin: u8, n: u32) -> Left
@@ -16,12 +17,12 @@ pub(crate) fn step(v: Volatile, image: &mut [u8], fuses: u8, pin: u8, n: u32) ->
     let d = v.lines ^ n;
     if d == 4 {
         if is_set(v.flags, volatile::PROGRAMMING) {
-            return programming::clock(v, image, fuses, pin, n);
+            return in_programming::clock(v, image, fuses, pin, n);
         }
         return moved::with_fuses(edges::clock(v, image, fuses, pin, n), fuses);
     }
     if (d == 1) & is_set(v.flags, volatile::PROGRAMMING) {
-        return programming::power_falls(v, fuses, n);
+        return in_programming::power(v, fuses, n);
     }
     moved::with_fuses(edges::other_than_clock(v, image, fuses, pin, n), fuses)
 }

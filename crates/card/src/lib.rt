@@ -8,15 +8,14 @@ ghost use lib.ListN.{length};
 ghost use Rattle.rules.specs.Card.{triesLeft};
 ghost use Rattle.volatile.specs.Packed.{given};
 ghost use Rattle.refusals.specs.Before.{givenRefusal, givenRunRefusal};
-ghost use Rattle.card.specs.Contracts.{StepAnswered, StepTold, walkOf, RunAnswered, flagsOf};
+ghost use Rattle.card.specs.Contracts.{StepAnswered, StepTold, RunAnswered, flagsOf};
 
 mod edges;
+mod in_programming;
 mod inner_step;
 mod masks;
 mod moved;
-mod programming;
 mod quick;
-mod walk;
 
 // The result of a step: both halves, and the pin's answer or the refusal.
 pub struct Stepped {
@@ -50,15 +49,6 @@ pub enum FlagsAnswer {
         e1: bool,
     },
     Refused(u8),
-}
-
-// In place of a pin: the step is no walk.
-pub const NO_WALK: u8 = 255;
-
-// Where a walk leads: the half and the pin; of any other step the half as it came, and NO_WALK.
-pub struct Walked {
-    pub volatile: Volatile,
-    pub pin: u8,
 }
 
 // The steps of a sound card, up to the first that is refused.
@@ -125,29 +115,6 @@ fn step_by_run(image: &mut [u8], fuses: u8, v: Volatile, n: u8) -> Told
         pin: told[0],
         refusal: ran.refusal,
     }
-}
-
-// One step where it walks, as most do: CLK on a card that is read. Any other is left to the calls below.
-pub fn walk_step(image: &[u8], fuses: u8, v: Volatile, n: u8) -> Walked
-    ensures { λ r. ⌜ r ≡ walkOf (given (now (image .entry)) fuses v) n ⌝ }
-{
-    let levels = n as u32;
-    if levels & masks::ALL_BUT_CLK_IO_FUS != 1 {
-        return walk::none(v);
-    }
-    if !walk::is_calm(v, levels) {
-        return walk::none(v);
-    }
-    if 1519 <= v.address {
-        return walk::none(v);
-    }
-    if image.len() != 174 {
-        return walk::none(v);
-    }
-    if 7 < fuses {
-        return walk::none(v);
-    }
-    walk::comes_to(v, image, fuses, levels)
 }
 
 // One step, its answer in plain numbers.

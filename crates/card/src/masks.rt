@@ -8,6 +8,3 @@ pub(crate) const VCC_RST_PGM: u32 = 11;
 pub(crate) const CLK_PGM: u32 = 12;
 
 pub(crate) const VCC_CLK_PGM: u32 = 13;
-
-// VCC, RST, PGM, and the bits that are no line.
-pub(crate) const ALL_BUT_CLK_IO_FUS: u32 = 203;

@@ -4,7 +4,7 @@ use mathlib.Core.Bool.{Bool, not}
 use lib.Dec.{eqb}
 use Rattle.volatile.specs.Packed.{one}
 use Rattle.card.specs.declared.Told.{Told}
-use Rattle.card.specs.declared.Walked.{Walked}
+use Rattle.walk.specs.declared.Walked.{Walked}
 use Rattle.card.specs.declared.FlagsAnswer.{FlagsAnswer}
 use Rattle.card.specs.Contracts.{flagsRefused, flagsHeld}
 use Rattle.maker.specs.declared.Made.{Made}

@@ -7,8 +7,8 @@ ghost use Rattle.card.specs.Contracts.{StepTold, RunAnswered, flagsOf};
 ghost use Rattle.exports.specs.Rendered.{ofWalk, ofStep, flagBytes};
 use card::FlagsAnswer;
 use card::Told;
-use card::Walked;
 use volatile::Volatile;
+use walk::Walked;
 
 // The result of a step: both halves, the pin's answer, 1 where refused, and the refusal, 0 if none.
 #[repr(C)]
@@ -84,8 +84,8 @@ fn of_step(s: Told) -> ZhavStepped
 pub extern "C" fn zhav_step(image: &mut [u8], fuses: u8, v: Volatile, n: u8) -> ZhavStepped
     ensures { λ r. ⌜ StepTold (given (now (image .entry)) fuses v) n (given (now (image .exit)) (r .fuses) (r .half)) (r .answer) (r .refusal) ⌝ }
 {
-    let w = card::walk_step(image, fuses, v, n);
-    if w.pin != card::NO_WALK {
+    let w = walk::step(image, fuses, v, n);
+    if w.pin != walk::NO_WALK {
         return of_walk(w, fuses);
     }
     of_step(card::step_told(image, fuses, v, n))
@@ -95,8 +95,8 @@ pub extern "C" fn zhav_step(image: &mut [u8], fuses: u8, v: Volatile, n: u8) -> 
 fn step_lent(image: &mut [u8], fuses: u8, v: Volatile, n: u8) -> ZhavStepped
     ensures { λ r. ⌜ StepTold (given (now (image .entry)) fuses v) n (given (now (image .exit)) (r .fuses) (r .half)) (r .answer) (r .refusal) ⌝ }
 {
-    let w = card::walk_step(image, fuses, v, n);
-    if w.pin != card::NO_WALK {
+    let w = walk::step(image, fuses, v, n);
+    if w.pin != walk::NO_WALK {
         return of_walk(w, fuses);
     }
     of_step(card::step_told(image, fuses, v, n))

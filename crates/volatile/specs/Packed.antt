@@ -10,7 +10,9 @@ use Rattle.rules.specs.Halves as Halves
 use Rattle.rules.specs.Rights.{Held}
 use Rattle.rules.specs.Zones.{between}
 use Rattle.rules.specs.Match.{compared}
+use Rattle.rules.specs.Programming.{operationNow}
 use Rattle.rules.specs.Refusals.{madeUp}
+use Rattle.rules.specs.Steps.{programmed}
 use Rattle.volatile.specs.declared.Volatile.{Volatile}
 
 -- A digit of a number: 1 for true.
@@ -66,6 +68,10 @@ handedBack c = record { memory = c .memory; fuses = c .fuses; half = packed (c .
 -- The same card with another half.
 abbrev pub withHalf : Given → Volatile → Given
 withHalf g v = record { memory = g .memory; fuses = g .fuses; half = v }
+
+-- The card after CLK's fall in programming.
+unfoldable pub programmedCard : Given → ℕ → Card
+programmedCard g n = programmed (operationNow (g .fuses) (unpacked (g .half))) n (cardOf g)
 
 -- 9 of a packed half. 01's clauses are `madeUp`; a word with a flag that no card has is made up too, which is this packing's own clause.
 unfoldable pub madeUpWord : Volatile → Bool

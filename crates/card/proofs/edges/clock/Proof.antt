@@ -1,7 +1,7 @@
 use mathlib.Core.Path.{sym, _∙_}
 use borrow.Author.Tests.{not-true, not-false}
 use Rattle.rules.specs.Lines.{CLK, high, place, mask}
-use Rattle.card.proofs.ByLine.{turned, clk-unpowered, clk-unpowered-kept, clk-rises, clk-rises-kept, keeps}
+use Rattle.edge_laws.proofs.ByLine.{turned, clk-unpowered, clk-unpowered-kept, clk-rises, clk-rises-kept, keeps}
 use borrow.Author.Needs.{needs}
 use Rattle.card.proofs.edges.clock.Statement.{statement}
 use Rattle.card.proofs.edges.clock.Tie as tie

@@ -3,9 +3,9 @@ use mathlib.Core.Path.{sym, _∙_}
 use borrow.Author.Tests.{not-true, not-false}
 use Rattle.rules.specs.Lines.{CLK, high, place, mask}
 use Rattle.volatile.specs.Packed.{unpacked}
-use Rattle.card.proofs.ByLine.{turned, address-within, keeps}
-use Rattle.card.proofs.ByLine.{clk-unpowered, clk-unpowered-kept, clk-reset, clk-reset-kept, clk-counts}
-use Rattle.card.proofs.Walks.{walks}
+use Rattle.edge_laws.proofs.ByLine.{turned, address-within, keeps}
+use Rattle.edge_laws.proofs.ByLine.{clk-unpowered, clk-unpowered-kept, clk-reset, clk-reset-kept, clk-counts}
+use Rattle.walk.proofs.Walks.{walks}
 use borrow.Author.Needs.{needs}
 use Rattle.card.proofs.edges.clock_falls.Statement.{statement}
 use Rattle.card.proofs.edges.clock_falls.Tie as tie

@@ -1,7 +1,7 @@
 use mathlib.Core.Path.{sym, _∙_}
 use Rattle.rules.specs.Lines.{FUS, high, place, mask}
 use Rattle.volatile.specs.Packed.{unpacked}
-use Rattle.card.proofs.ByLine.{turned, fus-refused, fus-goes, reads}
+use Rattle.edge_laws.proofs.ByLine.{turned, fus-refused, fus-goes, reads}
 use borrow.Author.Needs.{needs}
 use Rattle.card.proofs.edges.fuse.Statement.{statement}
 use Rattle.card.proofs.edges.fuse.Tie as tie

@@ -1,5 +1,5 @@
 use native.Mathlib.Omega.{arith}
-use Rattle.card.proofs.ByLine.{over-63, same-step, many-lines}
+use Rattle.edge_laws.proofs.ByLine.{over-63, same-step, many-lines}
 use borrow.Author.Needs.{needs}
 use Rattle.card.proofs.edges.other_line.Statement.{statement}
 use Rattle.card.proofs.edges.other_line.Tie as tie

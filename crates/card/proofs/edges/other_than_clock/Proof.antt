@@ -1,5 +1,5 @@
 use Rattle.rules.specs.Lines.{IO, place, mask}
-use Rattle.card.proofs.ByLine.{turned, io-goes, io-kept, keeps}
+use Rattle.edge_laws.proofs.ByLine.{turned, io-goes, io-kept, keeps}
 use borrow.Author.Needs.{needs}
 use Rattle.card.proofs.edges.other_than_clock.Statement.{statement}
 use Rattle.card.proofs.edges.other_than_clock.Tie as tie

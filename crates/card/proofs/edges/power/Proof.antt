@@ -1,7 +1,7 @@
 use mathlib.Core.Path.{sym, _∙_}
 use borrow.Author.Tests.{not-true, not-false}
 use Rattle.rules.specs.Lines.{VCC, high, place, mask}
-use Rattle.card.proofs.ByLine.{turned, vcc-off, vcc-refused, vcc-rises, reads}
+use Rattle.edge_laws.proofs.ByLine.{turned, vcc-off, vcc-refused, vcc-rises, reads}
 use borrow.Author.Needs.{needs}
 use Rattle.card.proofs.edges.power.Statement.{statement}
 use Rattle.card.proofs.edges.power.Tie as tie

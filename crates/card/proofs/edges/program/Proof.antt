@@ -1,5 +1,5 @@
 use Rattle.rules.specs.Lines.{PGM, place, mask}
-use Rattle.card.proofs.ByLine.{turned, pgm-refused, pgm-goes, reads}
+use Rattle.edge_laws.proofs.ByLine.{turned, pgm-refused, pgm-goes, reads}
 use borrow.Author.Needs.{needs}
 use Rattle.card.proofs.edges.program.Statement.{statement}
 use Rattle.card.proofs.edges.program.Tie as tie

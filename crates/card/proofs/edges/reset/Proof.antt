@@ -1,7 +1,7 @@
 use mathlib.Core.Path.{sym, _∙_}
 use Rattle.rules.specs.Lines.{RST, high, place, mask}
 use Rattle.volatile.specs.Packed.{unpacked}
-use Rattle.card.proofs.ByLine.{turned, rst-in-programming, rst-follows, rst-refused, rst-falls, reads}
+use Rattle.edge_laws.proofs.ByLine.{turned, rst-in-programming, rst-follows, rst-refused, rst-falls, reads}
 use borrow.Author.Needs.{needs}
 use Rattle.card.proofs.edges.reset.Statement.{statement}
 use Rattle.card.proofs.edges.reset.Tie as tie

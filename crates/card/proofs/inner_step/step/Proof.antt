@@ -1,9 +1,9 @@
 use mathlib.Core.Path.{sym, _∙_}
 use borrow.Author.Tests.{eqb-true}
-use Rattle.card.proofs.LineMasks.{both}
-use Rattle.rules.specs.Lines.{VCC, high, place, mask}
+use Rattle.edge_laws.proofs.LineMasks.{both}
+use Rattle.rules.specs.Lines.{VCC, place, mask}
 use Rattle.volatile.specs.Packed.{unpacked}
-use Rattle.card.proofs.ByLine.{turned, power-cut}
+use Rattle.edge_laws.proofs.ByLine.{turned, power-cut}
 use borrow.Author.Needs.{needs}
 use Rattle.card.proofs.inner_step.step.Statement.{statement}
 use Rattle.card.proofs.inner_step.step.Tie as tie
@@ -30,7 +30,7 @@ returns-3 c =
     let start = cut .before .before .before .before .before in
     let two = both _ _ (cut .if3 .taken) in
     let programming = sym (cut .before .is-set2 .ensures) ∙ two .1 in
-    rw (c .power-falls .ensures) (power-cut (start .pre) _ (turned (start .pre) _ VCC (eqb-true _ 1 (two .0))) programming)
+    rw (c .power .ensures) (power-cut (start .pre) _ (turned (start .pre) _ VCC (eqb-true _ 1 (two .0))) programming)
 
 returns-4 : tie.Need-returns-4
 returns-4 c = rw (c .with-fuses2 .ensures) (c .before .other-than-clock .ensures)

@@ -3,8 +3,8 @@ use borrow.Author.Tests.{not-true, not-false}
 use Rattle.rules.specs.Lines.{CLK, high, place, mask}
 use Rattle.volatile.specs.Packed.{unpacked}
 use Rattle.card.specs.Moves.{QuickTo}
-use Rattle.card.proofs.LineMasks.{high-low}
-use Rattle.card.proofs.ByLine.{clk-unpowered, clk-rises, clk-reset}
+use Rattle.edge_laws.proofs.LineMasks.{high-low}
+use Rattle.edge_laws.proofs.ByLine.{clk-unpowered, clk-rises, clk-reset}
 use Rattle.card.proofs.WithoutLoop.{quick-by}
 use borrow.Author.Needs.{needs}
 use Rattle.card.proofs.quick.clock.Statement.{statement}

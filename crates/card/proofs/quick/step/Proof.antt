@@ -1,8 +1,8 @@
 use borrow.Author.Tests.{eqb-true, eqb-false}
-use Rattle.card.proofs.LineMasks.{high-low}
+use Rattle.edge_laws.proofs.LineMasks.{high-low}
 use Rattle.rules.specs.Lines.{IO, place, mask}
 use Rattle.card.specs.Moves.{QuickTo}
-use Rattle.card.proofs.ByLine.{io-goes}
+use Rattle.edge_laws.proofs.ByLine.{io-goes}
 use Rattle.card.proofs.WithoutLoop.{quick-by, pgm-quick}
 use borrow.Author.Needs.{needs}
 use Rattle.card.proofs.quick.step.Statement.{statement}

@@ -1,0 +1,42 @@
+use mathlib.Core.Path.{sym, _∙_}
+use Rattle.rules.specs.Lines.{CLK, high, place, mask}
+use Rattle.volatile.specs.Packed.{unpacked}
+use Rattle.edge_laws.proofs.ByLine.{turned, clk-refused, clk-programs}
+use borrow.Author.Needs.{needs}
+use Rattle.card.proofs.in_programming.clock.Statement.{statement}
+use Rattle.card.proofs.in_programming.clock.Tie as tie
+
+returns : tie.Need-returns
+unfolding high place mask unpacked
+returns c =
+    let asked = c .before .before in
+    let start = asked .before .before .before in
+    let ready = start .pre .0 in
+    let t = turned ready _ CLK (start .pre .1 .1) in
+    rw (c .with-fuses .ensures, c .before .refused .ensures)
+    (clk-refused ready _ t (start .pre .1 .0) (sym (asked .before .is-set .ensures) ∙ asked .if1 .taken))
+
+returns-2 : tie.Need-returns-2
+unfolding high place mask unpacked
+returns-2 c =
+    let done = c .before .before .before .before .before .before in
+    let asked = done .before .before in
+    let start = asked .before .before .before in
+    let ready = start .pre .0 in
+    let t = turned ready _ CLK (start .pre .1 .1) in
+    rw (c .with-fuses2 .ensures, c .before .read .ensures)
+    (clk-programs ready _ t (start .pre .1 .0) (sym (asked .before .is-set .ensures) ∙ asked .if1 .left) (done .clock-falls .ensures))
+
+pub clock-spec : {M : Type 1} → statement M
+clock-spec =
+    tie.close
+    (tie.spec
+    (λ c κs. search needs)
+    (λ c κs. search needs)
+    (λ c κs. search needs)
+    returns
+    (λ c κs. search needs)
+    (λ c κs. search needs)
+    (λ c κs. search needs)
+    (λ c. search needs)
+    returns-2)

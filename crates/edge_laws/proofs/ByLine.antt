@@ -1,0 +1,437 @@
+-- A step of a ready card, line by line: the law that each `return` of the code cites.
+use Prim.Native.Nat.{ℕ, suc, _≤_, _<_}
+use native.Mathlib.Omega.{arith}
+use mathlib.Core.Path.{_≡_, refl, sym, ap, _∙_}
+use mathlib.Core.Bool.{Bool, true, false, cond, not, _&&_, _||_, and-true, and-false, or-true, false≢true}
+use mathlib.Core.List.{[]}
+use lib.Dec.{eqb, ltb}
+use lib.Bits.{bitXor, bitAnd}
+use borrow.Author.Tests.{lt-ltb, le-ltb, ltb-false, eq-eqb, ne-eqb, not-true, not-false}
+use Rattle.memory.specs.Image.{bit}
+use Rattle.rules.specs.Halves as Halves
+use Rattle.rules.specs.Halves.{Card, off}
+use Rattle.rules.specs.Lines.{Line, VCC, RST, CLK, PGM, IO, FUS, place, mask, high, Edge, Same, Rises, Falls, Many, change, edge}
+use Rattle.rules.specs.Rights.{held}
+use Rattle.rules.specs.Refusals.{anySet, madeUp, many, edgeRefusal, refusal}
+use Rattle.rules.specs.Match.{arrived}
+use Rattle.rules.specs.Steps.{follows, withVolatile, vccFalls, clkRises, rstFalls, unlatched, clocked, clkFalls, powered, next}
+use Rattle.rules.specs.Steps.{driven, pinValue, pin}
+use Rattle.theorems.proofs.Tests.{neither, edge-same}
+use Rattle.theorems.proofs.Soundness.{Sound, sound}
+use Rattle.volatile.specs.declared.Volatile.{Volatile}
+use Rattle.volatile.specs.Packed.{packed, unpacked, Given, cardOf, handedBack, withHalf, programmedCard, madeUpWord}
+use Rattle.volatile.proofs.Packing.{unpacked-packed, packed-unpacked}
+use Rattle.edge_laws.specs.Inner.{Ready, Steps}
+use Rattle.edge_laws.proofs.Turned.{by-difference, edge-by-difference, small-step, Turned, turned-by}
+use Rattle.edge_laws.proofs.LineMasks.{vcc-clk-pgm, vcc-rst, clk-pgm, high-low}
+use Rattle.edge_laws.proofs.EdgeRefusals.{same-refusal, clk-refusal, pgm-refusal, rst-refusal, fus-refusal, io-refusal, vcc-refusal}
+
+-- 9's clauses, of a packed half.
+pub flags-small : (v : Volatile) → madeUpWord v ≡ false → v .flags < 128
+unfolding madeUpWord
+flags-small v e = omega (arith, ltb-false 127 (v .flags) (neither (ltb 127 (v .flags)) (madeUp (unpacked v)) e .0))
+
+pub sound-half : (v : Volatile) → madeUpWord v ≡ false → Sound (unpacked v)
+unfolding madeUpWord
+sound-half v e = sound (unpacked v) (neither (ltb 127 (v .flags)) (madeUp (unpacked v)) e .1)
+
+-- A test that cannot hold beside another.
+off-then : (a b : Bool) → (a ≡ true → b ≡ true) → b ≡ false → a ≡ false
+off-then true b f e = sym (f refl) ∙ e
+off-then false b f e = refl
+
+same-sides : {A : Type 0} (t : Bool) (x : A) → cond t x x ≡ x
+same-sides true x = refl
+same-sides false x = refl
+
+programming-set : (v : Halves.Volatile) → v .programming ≡ true → anySet v ≡ true
+unfolding anySet
+programming-set v e =
+    rw (
+      e,
+      or-true (v .latch),
+      or-true (v .matched),
+      or-true (v .e1),
+      or-true (v .r1),
+      or-true (v .p1),
+      or-true (v .sv),
+      or-true (not (eqb (v .address) 0)),
+    )
+
+or-not : (a b : Bool) → not (a || b) ≡ (not a && not b)
+or-not true b = refl
+or-not false b = refl
+
+-- Without VCC, with RST or PGM high, or in programming the line is released.
+released : (c : Card) → driven (c .fuses) (c .volatile) ≡ false → pin c ≡ 1
+unfolding pin pinValue
+released c e = rw e
+
+-- The pin of a card with this packed half, as it is read.
+abbrev pub pinAt : Given → Volatile → ℕ
+pinAt g v = pinValue (driven (g .fuses) (unpacked v)) (bit (g .memory) (v .address))
+
+pub pin-handed-back : (c : Card) → pinAt (handedBack c) (packed (c .volatile)) ≡ pin c
+unfolding pin packed
+pin-handed-back c = rw (unpacked-packed (c .volatile))
+
+-- What 9 lets pass of a ready card.
+module _ {g : Given} {p : ℕ} (ready : Ready g p) where
+  half-sound : Sound (unpacked (g .half))
+  half-sound = sound-half (g .half) (ready .sound)
+
+  levels-small : g .half .lines < 64
+  unfolding unpacked
+  levels-small = half-sound .levels
+
+  pub address-within : g .half .address ≤ 1519
+  unfolding unpacked
+  address-within = half-sound .placed .within
+
+  -- With CLK low no programming is under way.
+  pub idle : high CLK (g .half .lines) ≡ false → unpacked (g .half) .programming ≡ false
+  unfolding unpacked
+  idle k = off-then (unpacked (g .half) .programming) (high CLK (g .half .lines)) (half-sound .wired .under-way) k
+
+  -- In programming CLK is high and VCC on.
+  pub clock-high : unpacked (g .half) .programming ≡ true → high CLK (g .half .lines) ≡ true
+  unfolding unpacked
+  clock-high q = half-sound .wired .under-way q
+
+  pub power-on : unpacked (g .half) .programming ≡ true → high VCC (g .half .lines) ≡ true
+  unfolding unpacked
+  power-on q =
+      let vcc = high VCC (g .half .lines) in
+      not-false vcc (rw (programming-set (unpacked (g .half)) q, and-true (not vcc)) at (half-sound .unpowered))
+
+module _ {g : Given} {p : ℕ} (ready : Ready g p) (n : ℕ) where
+  abbrev w : Halves.Volatile
+  w = unpacked (g .half)
+
+  abbrev l : ℕ
+  l = g .half .lines
+
+  abbrev card : Card
+  card = cardOf g
+
+  -- An accepted step leads to the next card; a refused one leaves all as it was.
+  pub goes-to : (after : Card) → refusal w n ≡ 0 → next card n ≡ after → Steps g p n (handedBack after) (pin after) 0
+  goes-to after e q = record { refused = sym e; accepted = λ _. (ap handedBack (sym q), ap pin (sym q)); kept = λ h. absurd (h refl) }
+
+  pub stays : (k : ℕ) → refusal w n ≡ suc k → Steps g p n g p (suc k)
+  stays k e = record { refused = sym e; accepted = λ z. absurd (ne (z)); kept = λ _. (refl, refl) }
+    where
+      ne : suc k ≡ 0 → ⊥
+      ne z = omega (arith, z)
+
+  -- An accepted step that changes the volatile half alone, to u.
+  pub record Goes (u : Halves.Volatile) : Type 0 where
+    pub none : refusal w n ≡ 0
+    pub there : next card n ≡ withVolatile card u
+
+  -- Its pin is read, or is the one at hand.
+  pub reads : {u : Halves.Volatile} → Goes u → Steps g p n (withHalf g (packed u)) (pinAt g (packed u)) 0
+  unfolding pin packed
+  reads {u} to = rw (unpacked-packed u) (goes-to (withVolatile card u) (to .none) (to .there))
+
+  pub keeps : {u : Halves.Volatile} → Goes u → p ≡ pin (withVolatile card u) → Steps g p n (withHalf g (packed u)) p 0
+  keeps {u} to h = rw (sym h) at (goes-to (withVolatile card u) (to .none) (to .there))
+
+  -- The difference is one line's mask.
+  pub turned : (x : Line) → bitXor l n ≡ mask x → Turned x l n
+  unfolding by-difference change mask place
+  turned VCC e = turned-by VCC l n 1 (levels-small ready) e (omega arith) refl
+  turned RST e = turned-by RST l n 2 (levels-small ready) e (omega arith) refl
+  turned CLK e = turned-by CLK l n 4 (levels-small ready) e (omega arith) refl
+  turned PGM e = turned-by PGM l n 8 (levels-small ready) e (omega arith) refl
+  turned IO e = turned-by IO l n 16 (levels-small ready) e (omega arith) refl
+  turned FUS e = turned-by FUS l n 32 (levels-small ready) e (omega arith) refl
+
+  -- The refusal and the next card, by the edge.
+  refusal-at : (e : Edge) → n < 64 → edge l n ≡ e → refusal w n ≡ edgeRefusal e l (w .programming)
+  unfolding refusal unpacked
+  refusal-at e h q = rw (le-ltb 63 n (omega arith), q)
+
+  next-at :
+      (e : Edge) (t : Bool) → edge l n ≡ e → high VCC l ≡ t → next card n ≡ cond t (powered e n card) (withVolatile card (follows n w))
+  unfolding next unpacked
+  next-at e t q h = rw (q, h)
+
+  -- A line x that is turned over has this refusal.
+  refused-by : {x : Line} (k : ℕ) → Turned x l n → edgeRefusal (change x l) l (w .programming) ≡ k → refusal w n ≡ k
+  refused-by {x} k t e = refusal-at (change x l) (t .small) (t .edge-is) ∙ e
+
+  -- It leads to what its edge does with VCC on; "Without VCC the lines only follow."
+  on-goes :
+      {x : Line} (u : Halves.Volatile) → Turned x l n → edgeRefusal (change x l) l (w .programming) ≡ 0 → high VCC l ≡ true →
+      powered (change x l) n card ≡ withVolatile card u → Goes u
+  on-goes {x} u t e h q = record { none = refused-by 0 t e; there = next-at (change x l) true (t .edge-is) h ∙ q }
+
+  off-goes : {x : Line} → Turned x l n → edgeRefusal (change x l) l (w .programming) ≡ 0 → high VCC l ≡ false → Goes (follows n w)
+  off-goes {x} t e h = record { none = refused-by 0 t e; there = next-at (change x l) false (t .edge-is) h }
+
+  -- A line that does no more than follow, with VCC and without.
+  follows-goes :
+      {x : Line} → Turned x l n → edgeRefusal (change x l) l (w .programming) ≡ 0 →
+      powered (Rises x) n card ≡ withVolatile card (follows n w) → powered (Falls x) n card ≡ withVolatile card (follows n w) →
+      Goes (follows n w)
+  unfolding change
+  follows-goes {x} t e r f =
+      record {
+        none = refused-by 0 t e;
+        there =
+            next-at (change x l) (high VCC l) (t .edge-is) refl ∙
+            (ap (λ (y : Card). cond (high VCC l) y there) (go (high x l)) ∙ same-sides (high VCC l) there);
+      }
+    where
+      there : Card
+      there = withVolatile card (follows n w)
+
+      go : (b : Bool) → powered (cond b (Falls x) (Rises x)) n card ≡ there
+      go true = f
+      go false = r
+
+  -- Without VCC, with RST or with PGM high the pin is released, whatever else.
+  unpowered-pin : (u : Halves.Volatile) → high VCC (u .lines) ≡ false → pin (withVolatile card u) ≡ 1
+  unfolding driven
+  unpowered-pin u e = released (withVolatile card u) (rw e)
+
+  reset-pin : (u : Halves.Volatile) → high RST (u .lines) ≡ true → pin (withVolatile card u) ≡ 1
+  unfolding driven
+  reset-pin u e = released (withVolatile card u) (rw (e, and-false (high VCC (u .lines))))
+
+  program-pin : (u : Halves.Volatile) → high PGM (u .lines) ≡ true → pin (withVolatile card u) ≡ 1
+  unfolding driven
+  program-pin u e = released (withVolatile card u) (rw (e, and-false (not (high RST (u .lines))), and-false (high VCC (u .lines))))
+
+  -- FUS.
+  module _ (t : Turned FUS l n) where
+    pub fus-refused : w .programming ≡ true → Steps g p n g p 3
+    fus-refused q = stays 2 (refused-by 3 t (fus-refusal l (w .programming) ∙ rw (q, power-on ready q)))
+
+    pub fus-goes : w .programming ≡ false → Goes (follows n w)
+    unfolding powered
+    fus-goes q = follows-goes t (fus-refusal l (w .programming) ∙ rw (q, and-false (high VCC l))) refl refl
+
+  -- PGM.
+  module _ (t : Turned PGM l n) where
+    rises-in-clk : (high VCC l && (high CLK l && not (high PGM l))) ≡ eqb (bitAnd n 13) 13
+    unfolding place
+    rises-in-clk = rw (← t .others VCC refl, ← t .others CLK refl, ← t .over) (sym (vcc-clk-pgm n))
+
+    pub pgm-refused : bitAnd n 13 ≡ 13 → Steps g p n g p 6
+    pgm-refused h = stays 5 (refused-by 6 t (pgm-refusal l (w .programming) ∙ rw (rises-in-clk, h)))
+
+    pub pgm-goes : (bitAnd n 13 ≡ 13 → ⊥) → Goes (follows n w)
+    unfolding powered
+    pgm-goes h = follows-goes t (pgm-refusal l (w .programming) ∙ rw (rises-in-clk, ne-eqb (bitAnd n 13) 13 h)) refl refl
+
+  -- I/O, which changes nothing that the pin looks at.
+  module _ (t : Turned IO l n) where
+    pub io-goes : Goes (follows n w)
+    unfolding powered
+    io-goes = follows-goes t (io-refusal l (w .programming)) refl refl
+
+    pub io-kept : p ≡ pin (withVolatile card (follows n w))
+    unfolding follows pin driven held place unpacked
+    io-kept = ready .pinned ∙ rw (t .others VCC refl, t .others RST refl, t .others PGM refl, t .others FUS refl)
+
+  -- RST.
+  module _ (t : Turned RST l n) where
+    pub rst-in-programming : w .programming ≡ true → Steps g p n g p 3
+    rst-in-programming q = stays 2 (refused-by 3 t (rst-refusal l (w .programming) ∙ rw (power-on ready q, q)))
+
+    module _ (q : w .programming ≡ false) where
+      -- It rises, or VCC is off.
+      pub rst-follows : (bitAnd n 3 ≡ 1 → ⊥) → Goes (follows n w)
+      unfolding powered change place
+      rst-follows h = go (high VCC l) (high RST l) refl refl (rw (t .others VCC refl, t .over) at no-fall)
+        where
+          no-fall : (high VCC n && not (high RST n)) ≡ false
+          no-fall = sym (vcc-rst n) ∙ ne-eqb (bitAnd n 3) 1 h
+
+          go : (a b : Bool) → high VCC l ≡ a → high RST l ≡ b → (a && not (not b)) ≡ false → Goes (follows n w)
+          go true true vcc rst e = absurd (false≢true (sym e))
+          go true false vcc rst e = on-goes (follows n w) t (rst-refusal l (w .programming) ∙ rw (vcc, q, rst)) vcc (rw rst)
+          go false b vcc rst e = off-goes t (rst-refusal l (w .programming) ∙ rw vcc) vcc
+
+      module _ (falls : bitAnd n 3 ≡ 1) where
+        fell-low : (high VCC l ≡ true) × (high RST l ≡ true)
+        unfolding place
+        fell-low =
+            let e = high-low (high VCC n) (high RST n) (sym (vcc-rst n) ∙ eq-eqb (bitAnd n 3) 1 falls) in
+            (sym (t .others VCC refl) ∙ e .0, not-false (high RST l) (sym (t .over) ∙ e .1))
+
+        pub rst-refused : high CLK n ≡ true → Steps g p n g p 5
+        unfolding place
+        rst-refused k =
+            stays 4 (refused-by 5 t (rst-refusal l (w .programming) ∙ rw (fell-low .0, q, fell-low .1, sym (t .others CLK refl) ∙ k)))
+
+        pub rst-falls : high CLK n ≡ false → Goes (arrived [] 0 0 (follows n w))
+        unfolding powered change rstFalls arrived place
+        rst-falls k =
+            on-goes (arrived [] 0 0 (follows n w)) t
+            (rst-refusal l (w .programming) ∙ rw (fell-low .0, q, fell-low .1, sym (t .others CLK refl) ∙ k))
+            (fell-low .0) (rw (fell-low .1))
+
+  -- VCC.
+  module _ (t : Turned VCC l n) where
+    vcc-falls : high VCC l ≡ true → Goes (off n)
+    unfolding powered change vccFalls
+    vcc-falls h = on-goes (off n) t (vcc-refusal l (w .programming) ∙ rw h) h (rw h)
+
+    off-pin : high VCC n ≡ false → pin (withVolatile card (off n)) ≡ 1
+    unfolding off
+    off-pin e = unpowered-pin (off n) e
+
+    pub vcc-off : high VCC n ≡ false → Steps g p n (withHalf g (packed (off n))) 1 0
+    vcc-off e =
+        let goes = vcc-falls (not-false (high VCC l) (sym (t .over) ∙ e)) in
+        rw (off-pin e) at (goes-to (withVolatile card (off n)) (goes .none) (goes .there))
+
+    pub power-cut : w .programming ≡ true → Steps g p n (withHalf g (packed (off n))) 1 0
+    power-cut q = vcc-off (t .over ∙ rw (power-on ready q))
+
+    module _ (e : high VCC n ≡ true) where
+      was-off : high VCC l ≡ false
+      was-off = not-true (high VCC l) (sym (t .over) ∙ e)
+
+      lines-up : not (high CLK l || high PGM l) ≡ eqb (bitAnd n 12) 0
+      unfolding place
+      lines-up = rw (← t .others CLK refl, ← t .others PGM refl) (or-not (high CLK n) (high PGM n) ∙ sym (clk-pgm n))
+
+      pub vcc-refused : (bitAnd n 12 ≡ 0 → ⊥) → Steps g p n g p 7
+      vcc-refused h =
+          let up = not-false (high CLK l || high PGM l) (lines-up ∙ ne-eqb (bitAnd n 12) 0 h) in
+          stays 6 (refused-by 7 t (vcc-refusal l (w .programming) ∙ rw (was-off, up)))
+
+      pub vcc-rises : bitAnd n 12 ≡ 0 → Goes (follows n w)
+      vcc-rises h =
+          let low = not-true (high CLK l || high PGM l) (lines-up ∙ eq-eqb (bitAnd n 12) 0 h) in
+          off-goes t (vcc-refusal l (w .programming) ∙ rw (was-off, low)) was-off
+
+  -- CLK.
+  module _ (t : Turned CLK l n) where
+    same-vcc : (b : Bool) → high VCC n ≡ b → high VCC l ≡ b
+    unfolding place
+    same-vcc b e = sym (t .others VCC refl) ∙ e
+
+    same-rst : (b : Bool) → high RST n ≡ b → high RST l ≡ b
+    unfolding place
+    same-rst b e = sym (t .others RST refl) ∙ e
+
+    same-pgm : (b : Bool) → high PGM n ≡ b → high PGM l ≡ b
+    unfolding place
+    same-pgm b e = sym (t .others PGM refl) ∙ e
+
+    pub clk-unpowered : high VCC n ≡ false → Goes (follows n w)
+    clk-unpowered e =
+        let h = same-vcc false e in
+        off-goes t (clk-refusal l (w .programming) ∙ rw (h, and-false (high CLK l))) h
+
+    pub clk-unpowered-kept : high VCC n ≡ false → p ≡ pin (withVolatile card (follows n w))
+    unfolding follows unpacked
+    clk-unpowered-kept e = ready .pinned ∙ (unpowered-pin w (same-vcc false e) ∙ sym (unpowered-pin (follows n w) e))
+
+    -- Its rise leaves the pin as it was with PGM low, and released with PGM high.
+    rising-pin : high PGM l ≡ false → w .programming ≡ false → pin card ≡ pin (withVolatile card (clkRises n w))
+    unfolding clkRises pin driven held place unpacked
+    rising-pin low q = rw (t .others VCC refl, t .others RST refl, t .others PGM refl, t .others FUS refl, low, q)
+
+    module _ (on : high VCC n ≡ true) where
+      module _ (up : high CLK n ≡ true) where
+        was-low : high CLK l ≡ false
+        was-low = not-true (high CLK l) (sym (t .over) ∙ up)
+
+        pub clk-rises : Goes (clkRises n w)
+        unfolding powered change
+        clk-rises = on-goes (clkRises n w) t (clk-refusal l (w .programming) ∙ rw was-low) (same-vcc true on) (rw was-low)
+
+        pub clk-rises-kept : p ≡ pin (withVolatile card (clkRises n w))
+        unfolding clkRises unpacked
+        clk-rises-kept = ready .pinned ∙ go (high PGM n) refl
+          where
+            go : (b : Bool) → high PGM n ≡ b → pin card ≡ pin (withVolatile card (clkRises n w))
+            go true h = program-pin w (same-pgm true h) ∙ sym (program-pin (clkRises n w) h)
+            go false h = rising-pin (same-pgm false h) (idle ready was-low)
+
+      module _ (down : high CLK n ≡ false) (q : w .programming ≡ false) where
+        was-high : high CLK l ≡ true
+        was-high = not-false (high CLK l) (sym (t .over) ∙ down)
+
+        none-refused : edgeRefusal (change CLK l) l (w .programming) ≡ 0
+        none-refused = clk-refusal l (w .programming) ∙ rw (same-vcc true on, was-high, q)
+
+        pub clk-reset : high RST n ≡ true → Goes (unlatched n (w .matched) w)
+        unfolding powered change clkFalls unpacked
+        clk-reset r = on-goes (unlatched n (w .matched) w) t none-refused (same-vcc true on) (rw (was-high, q, same-rst true r))
+
+        pub clk-reset-kept : high RST n ≡ true → p ≡ pin (withVolatile card (unlatched n (w .matched) w))
+        unfolding unlatched unpacked
+        clk-reset-kept r = ready .pinned ∙ (reset-pin w (same-rst true r) ∙ sym (reset-pin (unlatched n (w .matched) w) r))
+
+        module _ (r : high RST n ≡ false) where
+          is-clocked : powered (change CLK l) n card ≡ clocked n card
+          unfolding powered change clkFalls unpacked
+          is-clocked = rw (was-high, q, same-rst false r)
+
+          pub clk-walks : (u : Halves.Volatile) → clocked n card ≡ withVolatile card u → Goes u
+          clk-walks u there = on-goes u t none-refused (same-vcc true on) (is-clocked ∙ there)
+
+          pub clk-counts : Steps g p n (withHalf g (packed (clocked n card .volatile))) (pin (clocked n card)) 0
+          unfolding clocked
+          clk-counts =
+              goes-to (clocked n card) (refused-by 0 t none-refused)
+              (next-at (change CLK l) true (t .edge-is) (same-vcc true on) ∙ is-clocked)
+
+    module _ (q : w .programming ≡ true) where
+      pub clk-refused : high PGM n ≡ true → Steps g p n g p 4
+      clk-refused h =
+          stays 3
+          (refused-by 4 t (clk-refusal l (w .programming) ∙ rw (power-on ready q, clock-high ready q, q, same-pgm true h)))
+
+      pub clk-programs :
+          high PGM n ≡ false → {left : Given} → left ≡ handedBack (programmedCard g n) → Steps g p n left (pinAt left (left .half)) 0
+      unfolding powered change clkFalls programmedCard
+      clk-programs h is =
+          rw (is, pin-handed-back (programmedCard g n))
+          (goes-to (programmedCard g n)
+          (refused-by 0 t (clk-refusal l (w .programming) ∙ rw (power-on ready q, clock-high ready q, q, same-pgm false h)))
+          (next-at (change CLK l) true (t .edge-is) (power-on ready q) ∙ rw (clock-high ready q, q)))
+
+  -- No line: the step is the present levels.
+  pub same-step : bitXor l n ≡ 0 → Steps g p n g p 0
+  unfolding by-difference powered follows unpacked
+  same-step d =
+      rw (packed-unpacked (g .half) (flags-small (g .half) (ready .sound)), sym (ready .pinned)) at
+      (goes-to card none (there (high VCC l) refl))
+    where
+      small : n < 64
+      small = small-step l n (levels-small ready) (rw d (omega arith))
+
+      is-same : edge l n ≡ Same
+      is-same = edge-by-difference l n (levels-small ready) small ∙ rw d
+
+      none : refusal w n ≡ 0
+      none = refusal-at Same small is-same ∙ same-refusal l (w .programming)
+
+      there : (b : Bool) → high VCC l ≡ b → next card n ≡ card
+      there true h = next-at Same true is-same h
+      there false h = next-at Same false is-same h ∙ rw (edge-same l n (levels-small ready) small is-same)
+
+  -- A byte over 63.
+  pub over-63 : 63 < n → Steps g p n g p 1
+  unfolding refusal
+  over-63 h = stays 0 (rw (lt-ltb 63 n h))
+
+  -- More than one line.
+  pub many-lines :
+      n < 64 → (bitXor l n ≡ 0 → ⊥) → (bitXor l n ≡ 1 → ⊥) → (bitXor l n ≡ 2 → ⊥) → (bitXor l n ≡ 4 → ⊥) → (bitXor l n ≡ 8 → ⊥) →
+      (bitXor l n ≡ 16 → ⊥) → (bitXor l n ≡ 32 → ⊥) → Steps g p n g p 2
+  unfolding by-difference edgeRefusal many
+  many-lines small h0 h1 h2 h4 h8 h16 h32 =
+      let d = bitXor l n in
+      stays 1
+      (refusal-at Many small
+      (edge-by-difference l n (levels-small ready) small ∙
+      rw (ne-eqb d 0 h0, ne-eqb d 1 h1, ne-eqb d 2 h2, ne-eqb d 4 h4, ne-eqb d 8 h8, ne-eqb d 16 h16, ne-eqb d 32 h32)))

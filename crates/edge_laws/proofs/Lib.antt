@@ -1,0 +1,4 @@
+pub mod Turned
+pub mod LineMasks
+pub mod EdgeRefusals
+pub mod ByLine

@@ -1,0 +1,2 @@
+pub mod Fuses
+pub mod Laws

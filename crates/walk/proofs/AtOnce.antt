@@ -1,0 +1,268 @@
+-- A walk told at once: the tests before it let no other step pass, and what it tells is the step's own.
+use Prim.Native.Nat.{ℕ, _+_, _/_, _≤_, _<_}
+use native.Mathlib.Omega.{arith}
+use mathlib.Core.Path.{_≡_, refl, sym, ap, _∙_}
+use mathlib.Core.Bool.{Bool, true, false, cond, not, _&&_, _||_, and-false}
+use lib.Dec.{eqb, ltb, leb}
+use lib.ListN.{length}
+use lib.Bits.{bitAnd, bitXor, xor-comm, and-le-r}
+use borrow.Author.Tests.{eqb-true, eq-eqb, ne-eqb, ltb-true, lt-ltb, le-ltb, leb-true, le-leb, lt-leb, not-true}
+use Rattle.memory.specs.Image.{bytes, digit, bit}
+use Rattle.memory.proofs.Below.{all, and-left, and-right}
+use Rattle.rules.specs.Halves as Halves
+use Rattle.rules.specs.Lines.{CLK, VCC, PGM, place, high}
+use Rattle.rules.specs.Zones.{zone}
+use Rattle.rules.specs.Rights.{held, mayRead}
+use Rattle.rules.specs.Steps.{clkRises, withVolatile, next, driven, pinValue, pin}
+use Rattle.theorems.proofs.Tests.{below-then, below₂}
+use Rattle.volatile.specs.declared.Volatile.{Volatile}
+use Rattle.volatile.specs.Packed.{packed, unpacked, Given, cardOf, withHalf, wired, plainlySound, goneOn}
+use Rattle.volatile.proofs.Packing.{unpacked-packed}
+use Rattle.volatile.proofs.Sums.{ready}
+use Rattle.refusals.specs.Before.{givenRefusal}
+use Rattle.refusals.proofs.Laws.{none-refused}
+use Rattle.walk.specs.declared.Walked.{Walked}
+use Rattle.edge_laws.specs.Inner.{Ready, Steps}
+use Rattle.walk.specs.Contracts.{calm, plainAt, walkedTo, walks, walkTo, noWalk, walkOf}
+use Rattle.walk.specs.Inside.{Shows, walkedHalf, Calm}
+use Rattle.rules.specs.Lines.{change}
+use Rattle.edge_laws.proofs.Turned.{Turned, small-step, by-difference, turned-by}
+use Rattle.edge_laws.proofs.ByLine.{Goes, goes-to, clk-rises, clk-walks}
+use Rattle.walk.proofs.Walks.{plain-clocked}
+use Rattle.walk.proofs.Passed.{ready-at}
+
+-- The address of the half after a walk.
+pub comes-there : (v : Volatile) (n : ℕ) → walkedHalf v n .address ≡ walkedTo (v .address) n
+unfolding walkedHalf walkedTo packed clkRises goneOn unpacked
+comes-there v n = go (digit 2 n)
+  where
+    go : (up : Bool) → cond up (clkRises n (unpacked v)) (goneOn n (v .address + 1) (unpacked v)) .address ≡ cond up (v .address) (v .address + 1)
+    go true = refl
+    go false = refl
+
+-- VCC on, RST and PGM low, and no bit that is no line.
+pub record Still (n : ℕ) : Type 0 where
+  pub small : n < 64
+  pub ready-lines : bitAnd n 11 ≡ 1
+  pub vcc : high VCC n ≡ true
+  pub rst : digit 1 n ≡ false
+  pub pgm : high PGM n ≡ false
+
+still-byte :
+    (n : ℕ) → n < 256 → bitAnd n 203 ≡ 1 →
+    (ltb n 64 && (eqb (bitAnd n 11) 1 && (digit 0 n && (not (digit 1 n) && not (digit 3 n))))) ≡ true
+unfolding all digit
+still-byte n h e =
+    below-then 256 (λ x. eqb (bitAnd x 203) 1)
+    (λ x. ltb x 64 && (eqb (bitAnd x 11) 1 && (digit 0 x && (not (digit 1 x) && not (digit 3 x))))) refl n h (eq-eqb (bitAnd n 203) 1 e)
+
+still : (n : ℕ) → n < 256 → bitAnd n 203 ≡ 1 → Still n
+unfolding high place
+still n h e =
+    let a = still-byte n h e in
+    let b = and-right (ltb n 64) _ a in
+    let c = and-right (eqb (bitAnd n 11) 1) _ b in
+    let d = and-right (digit 0 n) _ c in
+    record {
+      small = ltb-true n 64 (and-left (ltb n 64) _ a);
+      ready-lines = eqb-true (bitAnd n 11) 1 (and-left (eqb (bitAnd n 11) 1) _ b);
+      vcc = and-left (digit 0 n) _ c;
+      rst = not-true (digit 1 n) (and-left (not (digit 1 n)) _ d);
+      pgm = not-true (digit 3 n) (and-right (not (digit 1 n)) _ d);
+    }
+
+-- The flags of a walk stand with these levels, and no programming is under way.
+unfoldable flags-calm : ℕ → ℕ → Bool
+flags-calm levels flags = digit 0 levels && (not (digit 3 levels) && (eqb (flags / 8) 0 || eqb (flags / 8) (bitAnd levels 4 / 2)))
+
+calm-wired :
+    (levels flags : ℕ) → levels < 64 → flags < 32 →
+    (not (flags-calm levels flags) || (wired levels flags && not (digit 3 flags))) ≡ true
+unfolding all flags-calm wired digit
+calm-wired = below₂ 64 32 (λ l f. not (flags-calm l f) || (wired l f && not (digit 3 f))) refl
+
+-- Flags that are divided to 0 or to a digit of the levels are few.
+few-flags : (levels flags : ℕ) → (eqb (flags / 8) 0 || eqb (flags / 8) (bitAnd levels 4 / 2)) ≡ true → flags < 32
+few-flags levels flags = go (eqb (flags / 8) 0) refl
+  where
+    go : (t : Bool) → eqb (flags / 8) 0 ≡ t → (t || eqb (flags / 8) (bitAnd levels 4 / 2)) ≡ true → flags < 32
+    go true e _ = omega (arith, eqb-true (flags / 8) 0 e)
+    go false e q = omega (arith, eqb-true (flags / 8) (bitAnd levels 4 / 2) q, and-le-r levels 4)
+
+module _ {g : Given} {n : ℕ} (c : Calm g n) where
+  abbrev l : ℕ
+  l = g .half .lines
+
+  abbrev flags : ℕ
+  flags = g .half .flags
+
+  levels : Still n
+  levels = still n (c .byte) (c .still)
+
+  clock-alone : bitXor l n ≡ 4
+  unfolding calm
+  clock-alone = eqb-true (bitXor l n) 4 (and-left (eqb (bitXor l n) 4) _ (c .turns))
+
+  small : l < 64
+  small = small-step n l (levels .small) (rw (xor-comm n l, clock-alone) (omega arith))
+
+  plain-flags : (eqb (flags / 8) 0 || eqb (flags / 8) (bitAnd l 4 / 2)) ≡ true
+  unfolding calm
+  plain-flags = and-right (eqb (bitXor l n) 4) _ (c .turns)
+
+  t : Turned CLK l n
+  unfolding by-difference change
+  t = turned-by CLK l n 4 small clock-alone (omega arith) refl
+
+  calm-here : flags-calm l flags ≡ true
+  unfolding flags-calm high place
+  calm-here = rw (sym (t .others VCC refl) ∙ levels .vcc, sym (t .others PGM refl) ∙ levels .pgm) plain-flags
+
+  wired-idle : (wired l flags && not (digit 3 flags)) ≡ true
+  wired-idle = rw calm-here at (calm-wired l flags small (few-flags l flags plain-flags))
+
+  unrefused : givenRefusal g ≡ 0
+  unfolding plainlySound
+  unrefused =
+      none-refused g (c .sized) (c .fused)
+      (rw (
+        le-ltb 63 l (omega (arith, small)),
+        le-ltb 31 flags (omega (arith, few-flags l flags plain-flags)),
+        le-ltb 1519 (g .half .address) (omega (arith, c .address)),
+      )
+      (and-left (wired l flags) _ wired-idle))
+
+  is-ready : Ready g (pin (cardOf g))
+  is-ready = ready-at g (pin (cardOf g)) unrefused refl
+
+  idle : unpacked (g .half) .programming ≡ false
+  unfolding unpacked
+  idle = not-true (digit 3 flags) (and-right (wired l flags) _ wired-idle)
+
+  -- The half after CLK's rise or fall.
+  abbrev after : Bool → Halves.Volatile
+  after up = cond up (clkRises n (unpacked (g .half))) (goneOn n (g .half .address + 1) (unpacked (g .half)))
+
+  goes-by : (up : Bool) → digit 2 n ≡ up → plainAt (after up .address) ≡ true → Goes is-ready n (after up)
+  unfolding high place goneOn
+  goes-by true e _ = clk-rises is-ready n t (levels .vcc) e
+  goes-by false e plain =
+      clk-walks is-ready n t (levels .vcc) e idle (levels .rst) (after false) (plain-clocked g n plain)
+
+  walk-goes : plainAt (walkedHalf (g .half) n .address) ≡ true → Goes is-ready n (after (digit 2 n))
+  unfolding walkedHalf packed
+  walk-goes plain = goes-by (digit 2 n) refl plain
+
+  -- What the pin shows after it.
+  as-held :
+      (u : Halves.Volatile) {r : ℕ} → Shows (u .address) (packed u .flags) r → r < 2 →
+      mayRead (held (g .fuses) u) (zone (u .address)) ≡ eqb r 1
+  unfolding unpacked
+  as-held u shows less =
+      shows .read less (g .fuses) u (ap (λ (v : Halves.Volatile). v .sv) (sym (unpacked-packed u)))
+      (ap (λ (v : Halves.Volatile). v .r1) (sym (unpacked-packed u)))
+
+  pin-by :
+      (up : Bool) {r : ℕ} → Shows (after up .address) (packed (after up) .flags) r → r < 2 →
+      pin (withVolatile (cardOf g) (after up)) ≡ pinValue (eqb r 1) (bit (g .memory) (after up .address))
+  unfolding pin driven clkRises goneOn
+  pin-by true shows less = rw (ready n _ (levels .ready-lines), levels .pgm, as-held (after true) shows less)
+  pin-by false shows less = rw (ready n _ (levels .ready-lines), as-held (after false) shows less)
+
+  -- What a walk comes to.
+  pub walked :
+      {r : ℕ} → Shows (walkedHalf (g .half) n .address) (walkedHalf (g .half) n .flags) r → r < 2 →
+      walkTo (next (cardOf g) n) ≡
+      record { volatile = walkedHalf (g .half) n; pin = pinValue (eqb r 1) (bit (g .memory) (walkedHalf (g .half) n .address)) }
+  unfolding walkedHalf packed
+  walked {r} shows less =
+      let plain = shows .plain ∙ lt-ltb r 2 less in
+      rw (walk-goes plain .there, pin-by (digit 2 n) shows less)
+
+  steps-so :
+      plainAt (walkedTo (g .half .address) n) ≡ true →
+      Steps g (pin (cardOf g)) n (withHalf g (packed (next (cardOf g) n .volatile))) (pin (next (cardOf g) n)) 0
+  steps-so plain =
+      let goes = walk-goes (ap plainAt (comes-there (g .half) n) ∙ plain) in
+      rw (goes .there) (goes-to is-ready n (withVolatile (cardOf g) (after (digit 2 n))) (goes .none) (goes .there))
+
+-- The tests, taken apart.
+module _ (g : Given) (n : ℕ) where
+  all-pass : n < 256 → walks g n ≡ true → Calm g n × (plainAt (walkedTo (g .half .address) n) ≡ true)
+  unfolding walks
+  all-pass byte e =
+      let a = and-right (eqb (bitAnd n 203) 1) _ e in
+      let b = and-right (calm (g .half) n) _ a in
+      let d = and-right (ltb (g .half .address) 1519) _ b in
+      let f = and-right (eqb (length (g .memory)) bytes) _ d in (
+        record {
+          byte = byte;
+          still = eqb-true (bitAnd n 203) 1 (and-left (eqb (bitAnd n 203) 1) _ e);
+          turns = and-left (calm (g .half) n) _ a;
+          address = ltb-true (g .half .address) 1519 (and-left (ltb (g .half .address) 1519) _ b);
+          sized = eqb-true (length (g .memory)) bytes (and-left (eqb (length (g .memory)) bytes) _ d);
+          fused = leb-true (g .fuses) 7 (and-left (leb (g .fuses) 7) _ f);
+        },
+        and-right (leb (g .fuses) 7) _ f,
+      )
+
+  -- A walk's half and pin are the step's.
+  pub walk-steps :
+      {w : Walked} → n < 256 → w ≡ walkOf g n → (w .pin ≡ 255 → ⊥) →
+      (givenRefusal g ≡ 0) × Steps g (pin (cardOf g)) n (withHalf g (w .volatile)) (w .pin) 0
+  unfolding walkOf
+  walk-steps {w} byte is other = go (walks g n) refl
+    where
+      go : (b : Bool) → walks g n ≡ b → (givenRefusal g ≡ 0) × Steps g (pin (cardOf g)) n (withHalf g (w .volatile)) (w .pin) 0
+      go true e = let p = all-pass byte e in (unrefused (p .0), rw (is, e) (steps-so (p .0) (p .1)))
+      go false e = let same : w ≡ noWalk (g .half) = is ∙ rw e in absurd (other (ap (λ (x : Walked). x .pin) same))
+
+  -- Where a test fails there is no walk; where all pass the address decides.
+  abbrev as-it-came : Type 0
+  as-it-came = noWalk (g .half) ≡ walkOf g n
+
+  pub not-still : (bitAnd n 203 ≡ 1 → ⊥) → as-it-came
+  unfolding walkOf walks
+  not-still h = rw (ne-eqb (bitAnd n 203) 1 h)
+
+  pub not-calm : calm (g .half) n ≡ false → as-it-came
+  unfolding walkOf walks
+  not-calm e = rw (e, and-false (eqb (bitAnd n 203) 1))
+
+  pub too-far : 1519 ≤ g .half .address → as-it-came
+  unfolding walkOf walks
+  too-far h = rw (le-ltb (g .half .address) 1519 h, and-false (calm (g .half) n), and-false (eqb (bitAnd n 203) 1))
+
+  pub not-sized : (length (g .memory) ≡ bytes → ⊥) → as-it-came
+  unfolding walkOf walks
+  not-sized h =
+      rw (
+        ne-eqb (length (g .memory)) bytes h,
+        and-false (ltb (g .half .address) 1519),
+        and-false (calm (g .half) n),
+        and-false (eqb (bitAnd n 203) 1),
+      )
+
+  pub not-fused : 7 < g .fuses → as-it-came
+  unfolding walkOf walks
+  not-fused h =
+      rw (
+        lt-leb (g .fuses) 7 h,
+        and-false (eqb (length (g .memory)) bytes),
+        and-false (ltb (g .half .address) 1519),
+        and-false (calm (g .half) n),
+        and-false (eqb (bitAnd n 203) 1),
+      )
+
+  pub all-passed :
+      Calm g n →
+      cond (plainAt (walkedTo (g .half .address) n)) (walkTo (next (cardOf g) n)) (noWalk (g .half)) ≡ walkOf g n
+  unfolding walkOf walks
+  all-passed c =
+      rw (
+        eq-eqb (bitAnd n 203) 1 (c .still),
+        c .turns,
+        lt-ltb (g .half .address) 1519 (c .address),
+        eq-eqb (length (g .memory)) bytes (c .sized),
+        le-leb (g .fuses) 7 (c .fused),
+      )

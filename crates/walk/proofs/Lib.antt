@@ -1,0 +1,4 @@
+pub mod AgainstCases
+pub mod Passed
+pub mod Walks
+pub mod AtOnce

@@ -1,0 +1,3 @@
+pub mod Contracts
+pub mod Inside
+pub mod Cases
