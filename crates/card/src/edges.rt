@@ -20,7 +20,7 @@ pub(crate) fn following(a: u32) -> u32
     requires { ⌜ a ≤ 1519 ⌝ }
     ensures { λ r. ⌜ r ≡ following a ⌝ }
 {
-    if a == 1519 {
+    if a == rules::LAST {
         return 0;
     }
     a + 1

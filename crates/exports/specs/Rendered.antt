@@ -9,6 +9,7 @@ use Rattle.card.specs.declared.FlagsAnswer.{FlagsAnswer}
 use Rattle.card.specs.Contracts.{flagsRefused, flagsHeld}
 use Rattle.maker.specs.declared.Made.{Made}
 use Rattle.maker.specs.Act.{refusalIn as actRefused, countOf}
+use Rattle.rules.specs.File.{stepsAt}
 use Rattle.file.specs.declared.CardFile.{CardFile}
 use Rattle.file.specs.declared.Session.{Session}
 use Rattle.file.specs.declared.Session.the-variants as session
@@ -49,7 +50,7 @@ cardFileOf c = record { fuses = cardFuses c; refusal = refusalInCard c }
 
 -- A session: the step section as the place where it starts, after the counts, the memory and the fuses, and its count.
 unfoldable pub stepsFrom : Session → ℕ
-stepsFrom (session.Parts fuses steps) = 181
+stepsFrom (session.Parts fuses steps) = stepsAt
 stepsFrom (session.Refused k) = 0
 
 unfoldable pub sessionOf : Session → ZhavSession

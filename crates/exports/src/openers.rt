@@ -47,7 +47,7 @@ pub extern "C" fn zhav_open_session(file: &[u8], memory: &mut [u8]) -> ZhavSessi
             fuses: fuses,
             steps: steps,
         } => ZhavSession {
-            first: 181,
+            first: rules::STEPS_AT,
             steps: steps,
             fuses: fuses,
             refusal: 0,

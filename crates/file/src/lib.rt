@@ -1,8 +1,5 @@
 // The openers of a card file and of a session: "Opening answers either the parts or a number."
 ghost use Rattle.file.specs.Opening.{CardOpened, SessionOpened, Handed};
-use sections::FUSES;
-use sections::STEP_COUNT;
-use sections::STEPS;
 
 mod sections;
 
@@ -24,7 +21,9 @@ pub fn open_card(file: &[u8], memory: &mut [u8]) -> CardFile
         return CardFile::Refused(refused);
     }
     sections::copy_memory(file, memory);
-    CardFile::Card { fuses: file[FUSES] }
+    CardFile::Card {
+        fuses: file[rules::FUSES_AT],
+    }
 }
 
 pub fn open_session(file: &[u8], memory: &mut [u8]) -> Session
@@ -36,8 +35,8 @@ pub fn open_session(file: &[u8], memory: &mut [u8]) -> Session
     }
     sections::copy_memory(file, memory);
     Session::Parts {
-        fuses: file[FUSES],
-        steps: sections::count(file, STEP_COUNT),
+        fuses: file[rules::FUSES_AT],
+        steps: sections::count(file, rules::STEP_COUNT_AT),
     }
 }
 
@@ -49,6 +48,6 @@ pub fn step_section(file: &[u8], room: usize) -> &[u8]
     if sections::session_refusal(file, room) != 0 {
         return &file[0..0];
     }
-    let end = STEPS + sections::count(file, STEP_COUNT);
-    &file[STEPS..end]
+    let end = rules::STEPS_AT + sections::count(file, rules::STEP_COUNT_AT);
+    &file[rules::STEPS_AT..end]
 }

@@ -5,22 +5,6 @@ ghost use lib.ListN.{length};
 ghost use Rattle.memory.specs.Image.{bytes};
 ghost use Rattle.rules.specs.File.{count as countAt, memorySection, partsRefusal, cardRefusal, sessionRefusal};
 
-// Where the sections stand: "in fixed order, each after its count (two bytes, low first)".
-const BYTES: usize = 174;
-
-const MEMORY: usize = 2;
-
-const FUSE_COUNT: usize = MEMORY + BYTES;
-
-pub(crate) const FUSES: usize = FUSE_COUNT + 2;
-
-// A card file ends here; a session goes on.
-const CARD_END: usize = FUSES + 1;
-
-pub(crate) const STEP_COUNT: usize = CARD_END;
-
-pub(crate) const STEPS: usize = STEP_COUNT + 2;
-
 pub(crate) fn count(file: &[u8], at: usize) -> usize
     requires { ⌜ at + 1 < length (now file) ⌝ }
     ensures { λ r. ⌜ r ≡ countAt (now (file .entry)) at ⌝ }
@@ -33,19 +17,19 @@ pub(crate) fn count(file: &[u8], at: usize) -> usize
 fn parts_refusal(file: &[u8], room: usize) -> u8
     ensures { λ r. ⌜ r ≡ partsRefusal (now (file .entry)) room 0 ⌝ }
 {
-    if room != BYTES {
+    if room != rules::BYTES {
         return 10;
     }
-    if file.len() < CARD_END {
+    if file.len() < rules::STEP_COUNT_AT {
         return 11;
     }
-    if count(file, 0) != BYTES {
+    if count(file, 0) != rules::BYTES {
         return 12;
     }
-    if count(file, FUSE_COUNT) != 1 {
+    if count(file, rules::FUSE_COUNT_AT) != 1 {
         return 13;
     }
-    if 7 < file[FUSES] { 14 } else { 0 }
+    if 7 < file[rules::FUSES_AT] { 14 } else { 0 }
 }
 
 pub(crate) fn card_refusal(file: &[u8], room: usize) -> u8
@@ -55,7 +39,11 @@ pub(crate) fn card_refusal(file: &[u8], room: usize) -> u8
     if parts != 0 {
         return parts;
     }
-    if file.len() == CARD_END { 0 } else { 17 }
+    if file.len() == rules::STEP_COUNT_AT {
+        0
+    } else {
+        17
+    }
 }
 
 pub(crate) fn session_refusal(file: &[u8], room: usize) -> u8
@@ -65,12 +53,12 @@ pub(crate) fn session_refusal(file: &[u8], room: usize) -> u8
     if parts != 0 {
         return parts;
     }
-    if file.len() < STEPS {
+    if file.len() < rules::STEPS_AT {
         return 15;
     }
-    let steps = count(file, STEP_COUNT);
-    let end = STEPS + steps;
-    if 4096 < steps {
+    let steps = count(file, rules::STEP_COUNT_AT);
+    let end = rules::STEPS_AT + steps;
+    if rules::LONGEST < steps {
         return 16;
     }
     if file.len() == end { 0 } else { 17 }
@@ -81,5 +69,5 @@ pub(crate) fn copy_memory(file: &[u8], memory: &mut [u8])
     requires { ⌜ 2 + bytes ≤ length (now file) ⌝ }
     ensures { λ _. ⌜ now (memory .exit) ≡ memorySection (now (file .entry)) ⌝ }
 {
-    memory::put(memory, 0, &file[MEMORY..FUSE_COUNT]);
+    memory::put(memory, 0, &file[rules::MEMORY_AT..rules::FUSE_COUNT_AT]);
 }

@@ -13,7 +13,7 @@ pub fn report(memory: &mut [u8], fuses: u8, steps: &[u8], given: usize, out: &mu
     ensures memory { λ r. ⌜ now (memory .exit) ≡ freshRun (now (memory .entry)) fuses (now (steps .entry)) .card .memory ⌝ }
     ensures enough { λ r. ⌜ Enough enough (length (now (out .entry))) r ⌝ }
 {
-    let mut answers = [0u8; 4096];
+    let mut answers = [0u8; rules::LONGEST];
     let ran = card::run(memory, fuses, Volatile::fresh(), steps, &mut answers);
     let left = card::tries_left(memory);
     report::four_lines(ran.done, given, ran.refusal, &answers, left, out)
@@ -23,11 +23,11 @@ pub fn report(memory: &mut [u8], fuses: u8, steps: &[u8], given: usize, out: &mu
 pub fn session_text(session: &[u8], out: &mut [u8]) -> Text
     ensures text { λ r. ⌜ Made (sessionText (now (session .entry))) (now (out .entry)) r (now (out .exit)) ⌝ }
 {
-    let mut memory = [0u8; 174];
+    let mut memory = [0u8; rules::BYTES];
     match file::open_session(session, &mut memory) {
         Session::Refused(refusal) => report::bad(refusal, out),
         Session::Parts { fuses, steps } => {
-            let section = file::step_section(session, 174);
+            let section = file::step_section(session, rules::BYTES);
             report(&mut memory, fuses, section, steps, out)
         }
     }

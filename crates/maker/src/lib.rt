@@ -11,6 +11,9 @@ use levels::RST;
 mod levels;
 mod parts;
 
+// The highest address, as a length.
+const LAST: usize = rules::LAST as usize;
+
 // The result of an act: so many steps written, or a refusal and nothing written.
 pub enum Made {
     Wrote(usize),
@@ -37,7 +40,7 @@ pub fn reset(fus: bool, out: &mut [u8]) -> Made
 pub fn walk(fus: bool, n: usize, out: &mut [u8]) -> Made
     ensures { λ r. ⌜ Acted (walkRefusal n) (walkSteps fus n) (now (out .entry)) r (now (out .exit)) ⌝ }
 {
-    if 1519 < n {
+    if LAST < n {
         return Made::Refused(21);
     }
     if out.len() < 2 * n {

@@ -8,7 +8,7 @@ ghost use Rattle.refusals.specs.Before.{givenRefusal, givenRunRefusal};
 pub fn state_refusal(image: &[u8], fuses: u8, v: Volatile) -> u8
     ensures { λ r. ⌜ r ≡ givenRefusal (given (now (image .entry)) fuses v) ⌝ }
 {
-    if image.len() != 174 {
+    if image.len() != rules::BYTES {
         return 10;
     }
     if 7 < fuses {
@@ -24,7 +24,7 @@ pub fn state_refusal(image: &[u8], fuses: u8, v: Volatile) -> u8
 pub fn quick_state_refusal(image: &[u8], fuses: u8, v: Volatile) -> u8
     ensures { λ r. ⌜ r ≡ givenRefusal (given (now (image .entry)) fuses v) ⌝ }
 {
-    if image.len() == 174 {
+    if image.len() == rules::BYTES {
         if fuses <= 7 {
             if v.plainly_sound() {
                 return 0;
@@ -42,7 +42,7 @@ pub fn run_refusal(image: &[u8], fuses: u8, v: Volatile, steps: usize, room: usi
     if refusal != 0 {
         return refusal;
     }
-    if 4096 < steps {
+    if rules::LONGEST < steps {
         return 18;
     }
     if room < steps {

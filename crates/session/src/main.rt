@@ -20,12 +20,12 @@ fn refusal(opened: Session) -> u8
 fn answer(session: &[u8], out: &mut [u8]) -> Text
     ensures { λ r. ⌜ Made (sessionText (now (session .entry))) (now (out .entry)) r (now (out .exit)) ⌝ }
 {
-    let mut memory = [0u8; 174];
+    let mut memory = [0u8; rules::BYTES];
     let opened = file::open_session(session, &mut memory);
     let Session::Parts { fuses, steps } = opened else {
         return report::bad(refusal(opened), out);
     };
-    let section = file::step_section(session, 174);
+    let section = file::step_section(session, rules::BYTES);
     fresh_run::report(&mut memory, fuses, section, steps, out)
 }
 

@@ -8,7 +8,8 @@ use lib.ListN.{length, take}
 use lib.Seq.{length-take-le, take-append-seam}
 use Rattle.memory.specs.Image.{bytes}
 use Rattle.rules.specs.Refusals.{longest}
-use Rattle.text.specs.Meaning.{Whole, Amiss, meaning, stepsAt, sessionOf, session, Written}
+use Rattle.rules.specs.File.{stepsAt}
+use Rattle.text.specs.Meaning.{Whole, Amiss, meaning, sessionOf, session, Written}
 use Rattle.text.specs.Progress.{sheetOf, readingOf, readCount, CameThrough}
 use Rattle.text.specs.Assembling.{noRoom, tooLong, longestText, answerTo, assembled, sessionIn, inBuffer, Assembles}
 use Rattle.text.specs.declared.sheet.Progress.{Progress}

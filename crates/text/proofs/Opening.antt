@@ -8,9 +8,9 @@ use lib.ListN.{length, getD}
 use lib.Seq.{take-at, take-length, drop-append-add, getD-append-add}
 use Rattle.memory.specs.Image.{bytes}
 use Rattle.rules.specs.Refusals.{longest}
-use Rattle.rules.specs.File.{count, memorySection, fuseSection, stepCount, stepSection, sessionRefusal}
+use Rattle.rules.specs.File.{stepsAt, count, memorySection, fuseSection, stepCount, stepSection, sessionRefusal}
 use Rattle.text.specs.Sheet.{Sheet}
-use Rattle.text.specs.Meaning.{stepsAt, sessionOf, session, Whole, meaning}
+use Rattle.text.specs.Meaning.{sessionOf, session, Whole, meaning}
 use Rattle.text.specs.Assembling.{Opened}
 use Rattle.text.proofs.Sections.{length-session}
 use Rattle.text.proofs.Soundness.{Sound, sound}

@@ -13,7 +13,8 @@ use Rattle.maker.specs.Act.{made, inBuffer, Acted}
 use Rattle.maker.specs.declared.Made.{Made}
 use Rattle.maker.specs.declared.Made.the-variants.{Wrote}
 use Rattle.memory.specs.Image.{bytes}
-use Rattle.text.specs.Meaning.{stepsAt, sessionOf, Written}
+use Rattle.rules.specs.File.{stepsAt}
+use Rattle.text.specs.Meaning.{sessionOf, Written}
 use Rattle.text.specs.Progress.{Put}
 
 roomy : (xs : List ℕ) (room : ℕ) → length xs ≤ room → made 0 xs room ≡ Wrote (length xs)

@@ -32,10 +32,6 @@ unfoldable pub sessionOf : List ℕ → ℕ → List ℕ → List ℕ
 sessionOf image fuses steps =
     bytes ∷ 0 ∷ (image ++ (1 ∷ 0 ∷ fuses ∷ (length steps % 256) ∷ (length steps / 256) ∷ steps))
 
--- The place of the steps: after the image, the fuse byte and three counts.
-abbrev pub stepsAt : ℕ
-stepsAt = 181
-
 -- A sheet's session.
 unfoldable pub session : Sheet → List ℕ
 session s = sessionOf (s .image) (s .fuses) (s .steps)

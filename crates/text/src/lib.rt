@@ -20,13 +20,7 @@ const TOO_LONG: u8 = 77;
 
 const LONGEST_TEXT: usize = 65536;
 
-// The image's bytes.
-const BYTES: usize = 174;
-
 const ALL_ONES: u8 = 255;
-
-// The steps of a session.
-const LONGEST: usize = 4096;
 
 pub fn assemble(text: &[u8], out: &mut [u8]) -> Assembled
     ensures { λ r. ⌜ Assembles (now (text .entry)) (now (out .entry)) r (now (out .exit)) ⌝ }
@@ -37,8 +31,8 @@ pub fn assemble(text: &[u8], out: &mut [u8]) -> Assembled
             reason: TOO_LONG,
         };
     }
-    let mut image = [ALL_ONES; BYTES];
-    let mut steps = [0u8; LONGEST];
+    let mut image = [ALL_ONES; rules::BYTES];
+    let mut steps = [0u8; rules::LONGEST];
     let read = reading::read_lines(text, &mut image, &mut steps);
     match read {
         Read::Amiss { line, refusal } => Assembled::Wrong {
@@ -47,7 +41,7 @@ pub fn assemble(text: &[u8], out: &mut [u8]) -> Assembled
         },
         Read::Whole(p) => {
             let count = p.count;
-            if out.len() < session::STEPS_AT + count {
+            if out.len() < rules::STEPS_AT + count {
                 return Assembled::Wrong {
                     line: 0,
                     reason: NO_ROOM,

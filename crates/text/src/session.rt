@@ -4,14 +4,12 @@ ghost use mathlib.Core.Path.{_≡_};
 ghost use lib.ListN.{length};
 ghost use Rattle.memory.specs.Image.{bytes as imageBytes};
 ghost use Rattle.rules.specs.Refusals.{longest};
-ghost use Rattle.text.specs.Meaning.{stepsAt, sessionOf, Written};
+ghost use Rattle.rules.specs.File.{stepsAt};
+ghost use Rattle.text.specs.Meaning.{sessionOf, Written};
 ghost use Rattle.text.specs.Progress.{Put};
 
-// The place of the steps: after the image, the fuse byte and three counts.
-pub(crate) const STEPS_AT: usize = 181;
-
-// The image's bytes.
-const BYTES: u8 = 174;
+// The image's bytes: the low byte of its count.
+const BYTES: u8 = rules::BYTES as u8;
 
 fn put(bytes: &[u8], out: &mut [u8], at: usize) -> usize
     requires { ⌜ at + length (now bytes) ≤ length (now out) ⌝ }

@@ -84,9 +84,6 @@ const FZ: usize = 21;
 
 const MFZ: usize = 30;
 
-// The image's bytes.
-const BYTES: usize = 174;
-
 // A byte of ones.
 const ALL_ONES: u8 = 255;
 
@@ -169,8 +166,8 @@ fn named(verb: usize, object: usize) -> Order
             object,
             ONES,
             ZEROS,
-            filling(0, BYTES, ALL_ONES),
-            filling(0, BYTES, 0),
+            filling(0, rules::BYTES, ALL_ONES),
+            filling(0, rules::BYTES, 0),
         );
     }
     either(
@@ -264,10 +261,10 @@ fn byte(object: &[u8], w: &[u8]) -> Order
         return Order::Wrong(UNFIT);
     };
     let first = at as usize;
-    if BYTES < first {
+    if rules::BYTES < first {
         return Order::Wrong(BEYOND);
     }
-    bytes(first, BYTES - first, w)
+    bytes(first, rules::BYTES - first, w)
 }
 
 // The zones' first bytes and how many they have, in the order of the table of names.

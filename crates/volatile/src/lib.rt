@@ -388,7 +388,7 @@ impl Volatile {
         if 31 < self.flags {
             return false;
         }
-        if 1519 < self.address {
+        if rules::LAST < self.address {
             return false;
         }
         let wires = self.lines / 4 % 4 + 4 * (self.flags / 8 % 4);
@@ -421,8 +421,8 @@ impl Volatile {
         let code = (81 <= a) & (a <= 103);
         let key = (1201 <= a) & (a <= 1359);
         let matched = is_set(flags, MATCH) & !(code | key);
-        let keyed = is_set(flags, E1) & !((1232 <= a) & (a <= 1519));
+        let keyed = is_set(flags, E1) & !((1232 <= a) & (a <= rules::LAST));
         let told = latched | (started | (idle | (matched | keyed)));
-        (127 < flags) | ((63 < self.lines) | ((1519 < a) | (off | told)))
+        (127 < flags) | ((63 < self.lines) | ((rules::LAST < a) | (off | told)))
     }
 }

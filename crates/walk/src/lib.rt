@@ -63,7 +63,7 @@ pub fn shows(a: u32, flags: u32) -> u8
     if a < 1392 {
         return BIT;
     }
-    if a < 1520 {
+    if a <= rules::LAST {
         return NOTHING;
     }
     APART
@@ -126,10 +126,10 @@ pub fn step(image: &[u8], fuses: u8, v: Volatile, n: u8) -> Walked
     if !is_calm(v, levels) {
         return none(v);
     }
-    if 1519 <= v.address {
+    if rules::LAST <= v.address {
         return none(v);
     }
-    if image.len() != 174 {
+    if image.len() != rules::BYTES {
         return none(v);
     }
     if 7 < fuses {
