@@ -17,7 +17,7 @@ use Rattle.rules.specs.declared.Operation.the-variants.{Nothing, WriteBit, Eras
 use Rattle.rules.specs.Zones.{between, zone}
 use Rattle.rules.specs.Rights.{Held, held, level1, granted}
 use Rattle.rules.specs.Programming.{operation, asks, mayProgram, memoryAfter, turns, opens, keyOpens}
-use Rattle.rules.specs.Halves.{EC-EN, unblown}
+use Rattle.rules.specs.Halves.{Card, EC-EN, unblown}
 use Rattle.rules.specs.Lines.{CLK, mask}
 use Rattle.rules.specs.Steps.{programmed}
 use Rattle.rules.specs.Maker.{zerosBefore, io, idle, program}
@@ -46,10 +46,10 @@ operation-SCAC : (h : Held) (ec-en d : Bool) (a : ℕ) → 96 ≤ a → a ≤ 11
 unfolding operation mayProgram act
 operation-SCAC h ec-en d a low high = rw (zone-SCAC a low high, granted-SCAC (level1 h) ec-en d a h)
 
-module _ (fuses : ℕ) (p1 r1 : Bool) where
+module _ (c : Card) where
   takes-effect : (n levels : ℕ) (d : Bool) (m : List ℕ) (a : ℕ) (sv matched : Bool) → 96 ≤ a → a ≤ 103 →
-      programmed (act d sv) n (on fuses p1 r1 levels d true m a sv false matched) ≡
-      on fuses p1 r1 n false false (memoryAfter (act d sv) a m) a (opens (act d sv) m a matched || sv) false matched
+      programmed (act d sv) n (on c levels d true m a sv false matched) ≡
+      on c n false false (memoryAfter (act d sv) a m) a (opens (act d sv) m a matched || sv) false matched
   unfolding act programmed keyOpens
   takes-effect n levels true m a true matched low high = rw (under 1232 1359 a (omega arith))
   takes-effect n levels true m a false matched low high = rw (under 1232 1359 a (omega arith))
@@ -58,22 +58,22 @@ module _ (fuses : ℕ) (p1 r1 : Bool) where
 
   -- "program d" at a try.
   programs-counter : (fus d : Bool) (m : List ℕ) (a : ℕ) (sv matched : Bool) → 96 ≤ a → a ≤ 103 →
-      Leads (ready fuses p1 r1 fus true m a sv matched) (program fus d)
-      (ready fuses p1 r1 fus true (memoryAfter (act d sv) a m) a (opens (act d sv) m a matched || sv) matched)
+      Leads (ready c fus true m a sv matched) (program fus d)
+      (ready c fus true (memoryAfter (act d sv) a m) a (opens (act d sv) m a matched || sv) matched)
   unfolding idle io held
   programs-counter fus d m a sv matched low high =
       let levels = idle fus + mask CLK in
-      let v = on fuses p1 r1 levels d true m a sv false matched .volatile in
+      let v = on c levels d true m a sv false matched .volatile in
       rw (
         ← takes-effect (idle fus) levels d m a sv matched low high,
-        ← operation-SCAC (held fuses v) (unblown EC-EN fuses) d a low (omega arith),
+        ← operation-SCAC (held (c .fuses) v) (unblown EC-EN (c .fuses)) d a low (omega arith),
       )
-      (programs fuses p1 r1 fus d m a sv matched)
+      (programs c fus d m a sv matched)
 
   -- "write, erase" at a try that is still there: with the match the card opens and its word is erased, without it the try is spent.
   pub uses-try : (fus : Bool) (m : List ℕ) (a : ℕ) (matched : Bool) → 96 ≤ a → a ≤ 103 → bit m a ≡ true →
-      Leads (ready fuses p1 r1 fus true m a false matched) (program fus false ++ program fus true)
-      (ready fuses p1 r1 fus true (cond matched (erasedWord (written m a) a) (written m a)) a matched matched)
+      Leads (ready c fus true m a false matched) (program fus false ++ program fus true)
+      (ready c fus true (cond matched (erasedWord (written m a) a) (written m a)) a matched matched)
   unfolding act opens memoryAfter turns
   uses-try fus m a true low high there =
       then

@@ -40,20 +40,20 @@ unfolding run
 leads-run (ends p) = record { accepted = refl; card = p }
 leads-run (step accepted rest) = let r = leads-run rest in rw accepted (record { accepted = r .accepted; card = r .card })
 
-module _ (fuses : ℕ) (p1 r1 : Bool) where
-  -- A card whose VCC is on.
+module _ (c : Card) where
+  -- A card whose VCC is on, with the fuses, P1 and R1 of c.
   abbrev pub on : ℕ → Bool → Bool → List ℕ → ℕ → Bool → Bool → Bool → Card
   on levels latch programming m a sv e1 matched =
       record {
         memory = m;
-        fuses = fuses;
+        fuses = c .fuses;
         volatile =
             record {
               lines = levels;
               address = a;
               sv = sv;
-              p1 = p1;
-              r1 = r1;
+              p1 = c .volatile .p1;
+              r1 = c .volatile .r1;
               e1 = e1;
               matched = matched;
               latch = latch;
@@ -138,9 +138,9 @@ module _ (fuses : ℕ) (p1 r1 : Bool) where
 
   -- "program d: PGM up, I/O d, CLK up, PGM down, I/O 1, CLK down": the operation takes effect, wherever the card stands.
   pub programs : (fus d : Bool) (m : List ℕ) (a : ℕ) (sv matched : Bool) →
-      let c = on (idle fus + mask CLK) d true m a sv false matched in
+      let there = on (idle fus + mask CLK) d true m a sv false matched in
       Leads (ready fus true m a sv matched) (program fus d)
-      (programmed (operation (held fuses (c .volatile)) (unblown EC-EN fuses) false d a) (idle fus) c)
+      (programmed (operation (held (c .fuses) (there .volatile)) (unblown EC-EN (c .fuses)) false d a) (idle fus) there)
   unfolding the-card base io program
   programs true true m a sv matched = step refl (step refl (step refl (step refl (step refl (step refl (ends refl))))))
   programs true false m a sv matched = step refl (step refl (step refl (step refl (step refl (step refl (ends refl))))))

@@ -13,6 +13,7 @@ use Rattle.rules.specs.Halves.{Volatile, Card}
 use Rattle.rules.specs.Lines.{CLK, place, high}
 use Rattle.rules.specs.Zones.{between}
 use Rattle.rules.specs.Refusals.{madeUp, stateRefusal, runRefusal}
+use Rattle.rules.specs.Steps.{withVolatile}
 use Rattle.rules.specs.Card.{checkedRun}
 use Rattle.rules.specs.Maker.{idle, reset, walk, digits, showBits, program, zerosBefore, open-card, actRefusal, openRefusal}
 use Rattle.rules.specs.Demands.{Idle, attempts, firstTry, shown}
@@ -43,34 +44,29 @@ at-rest fus v lines sound = (
 -- "a powered, idle, unopened card", told by its fields.
 idle-card : (fus : Bool) (c : Card) → Idle fus c →
     let v = c .volatile in
-    c ≡ on (c .fuses) (v .p1) (v .r1) (idle fus) false false (c .memory) (v .address) false (v .e1) (v .matched)
+    c ≡ on c (idle fus) false false (c .memory) (v .address) false (v .e1) (v .matched)
 idle-card fus c i =
     let rest = at-rest fus (c .volatile) (i .lines) (i .sound) in
     λ j.
-    record {
-      memory = c .memory;
-      fuses = c .fuses;
-      volatile =
-          record {
-            lines = i .lines j;
-            address = c .volatile .address;
-            sv = i .unopened j;
-            p1 = c .volatile .p1;
-            r1 = c .volatile .r1;
-            e1 = c .volatile .e1;
-            matched = c .volatile .matched;
-            latch = rest .0 j;
-            programming = rest .1 j;
-          };
-    }
+    withVolatile c
+    (record {
+      lines = i .lines j;
+      address = c .volatile .address;
+      sv = i .unopened j;
+      p1 = c .volatile .p1;
+      r1 = c .volatile .r1;
+      e1 = c .volatile .e1;
+      matched = c .volatile .matched;
+      latch = rest .0 j;
+      programming = rest .1 j;
+    })
 
 -- The card after the maker's steps, t being whether the code matched.
 abbrev used : (fus t : Bool) → Card → Card
 used fus t c =
     let m = c .memory in
-    let v = c .volatile in
     let w = firstTry c in
-    ready (c .fuses) (v .p1) (v .r1) fus true (cond t (erasedWord (written m w) w) (written m w)) w t t
+    ready c fus true (cond t (erasedWord (written m w) w) (written m w)) w t t
 
 opening-steps : (fus : Bool) (code : ℕ) (c : Card) → Idle fus c → firstTry c < 104 →
     Leads c
@@ -82,19 +78,16 @@ unfolding digits
 opening-steps fus code c i left =
     let m = c .memory in
     let v = c .volatile in
-    let f = c .fuses in
-    let p1 = v .p1 in
-    let r1 = v .r1 in
     let k = zerosBefore 8 (attempts c) in
     let matched = shownMatch m 80 (digits 16 code) false in
     let before : (x : ℕ) → 0 ≤ x → x < 80 → between 80 95 x ≡ false = λ x _ high. under 80 95 x high in
     let after : (x : ℕ) → 96 ≤ x → x < 96 + k → between 80 95 x ≡ false = λ x low _. over 80 95 x low in
     rw (idle-card fus c i)
-    (then (resets f p1 r1 fus m (v .address) false (v .e1) (v .matched))
-    (then (walks f p1 r1 fus m 80 0 false (omega arith) before)
-    (then (shows f p1 r1 fus true m (digits 16 code) 80 false (omega arith))
-    (then (walks f p1 r1 fus m k 96 matched (omega arith) after)
-    (uses-try f p1 r1 fus m (96 + k) matched (omega arith) (omega arith) (first-try m (omega arith)))))))
+    (then (resets c fus m (v .address) false (v .e1) (v .matched))
+    (then (walks c fus m 80 0 false (omega arith) before)
+    (then (shows c fus true m (digits 16 code) 80 false (omega arith))
+    (then (walks c fus m k 96 matched (omega arith) after)
+    (uses-try c fus m (96 + k) matched (omega arith) (omega arith) (first-try m (omega arith)))))))
 
 reaches : (fus : Bool) (code : ℕ) (c : Card) → Idle fus c → firstTry c < 104 →
     Reaches (shown fus code c) (used fus (shownMatch (c .memory) 80 (digits 16 code) false) c)

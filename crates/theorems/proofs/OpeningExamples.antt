@@ -7,9 +7,10 @@ use mathlib.Core.List.{List, _∷_, _++_}
 use lib.ListN.{getD, replicate}
 use Rattle.rules.specs.Halves.{Card}
 use Rattle.rules.specs.Computing.{the-card}
+use Rattle.rules.specs.Steps.{withVolatile}
 use Rattle.rules.specs.Card.{checkedRun}
 use Rattle.rules.specs.Maker.{idle, digits, zerosBefore, open-card, actRefusal, openRefusal}
-use Rattle.rules.specs.Demands.{Idle, attempts, firstTry, bitsFrom, CodeIsRight, shown}
+use Rattle.rules.specs.Demands.{Idle, attempts, firstTry, bitsFrom, CodeIsRight, shown, freshCard}
 use Rattle.theorems.proofs.Opening.{right-code-opens, wrong-code-spends-one-try, opens-as-made}
 
 -- The code 0x1234 in bits 80 to 95, and a byte of bits 96 to 103; all other bits but the first are ones.
@@ -19,22 +20,18 @@ image tries = 127 ∷ (replicate 9 255 ++ 0x12 ∷ 0x34 ∷ tries ∷ replicate 
 -- Three tries are spent. It stands in EC with P1, R1, E1 and match set.
 abbrev card : Bool → ℕ → Card
 card fus fuses =
-    record {
-      memory = image 0b0001_1111;
-      fuses = fuses;
-      volatile =
-          record {
-            lines = idle fus;
-            address = 1300;
-            sv = false;
-            p1 = true;
-            r1 = true;
-            e1 = true;
-            matched = true;
-            latch = false;
-            programming = false;
-          };
-    }
+    withVolatile (freshCard (image 0b0001_1111) fuses)
+    (record {
+      lines = idle fus;
+      address = 1300;
+      sv = false;
+      p1 = true;
+      r1 = true;
+      e1 = true;
+      matched = true;
+      latch = false;
+      programming = false;
+    })
 
 is-idle : (fus : Bool) (fuses : ℕ) → fuses ≤ 7 → Idle fus (card fus fuses)
 unfolding the-card idle

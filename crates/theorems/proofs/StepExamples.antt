@@ -6,7 +6,7 @@ use mathlib.Core.List.{List, [], _∷_}
 use lib.ListN.{replicate}
 use Rattle.rules.specs.Halves.{Card}
 use Rattle.rules.specs.Refusals.{refusal, madeUp, stateRefusal}
-use Rattle.rules.specs.Steps.{next}
+use Rattle.rules.specs.Steps.{withVolatile, next}
 use Rattle.rules.specs.Card.{refusalIn, checkedStep, checkedAnswer, checkedRun}
 use Rattle.rules.specs.Computing.{the-card}
 use Rattle.rules.specs.Demands.{done, freshCard}
@@ -40,22 +40,18 @@ stops-at-the-eighth = record { seven = refl; number = refl; lines = refl }
 -- CLK is high, the code was shown, and it is about to move on to 104.
 abbrev at : ℕ → Bool → Card
 at a matched =
-    record {
-      memory = caseS .memory;
-      fuses = 7;
-      volatile =
-          record {
-            lines = 53;
-            address = a;
-            sv = false;
-            p1 = false;
-            r1 = false;
-            e1 = false;
-            matched = matched;
-            latch = true;
-            programming = false;
-          };
-    }
+    withVolatile caseS
+    (record {
+      lines = 53;
+      address = a;
+      sv = false;
+      p1 = false;
+      r1 = false;
+      e1 = false;
+      matched = matched;
+      latch = true;
+      programming = false;
+    })
 
 pub record Match-has-to-end : Type 0 where
   pub sound : stateRefusal (at 103 true) ≡ 0
