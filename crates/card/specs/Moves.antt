@@ -33,6 +33,6 @@ leftBy r fuses = record { fuses = fuses; volatile = r .volatile; pin = r .pin; r
 -- Where a half is named, a sound card's step leads to it and changes nothing else.
 unfoldable pub QuickTo : Volatile → ℕ → Quick → Type 0
 QuickTo v n (To after) =
-    (m : List ℕ) (fuses p : ℕ) → Ready (given m fuses v) p →
-    Steps (given m fuses v) p n (given m fuses after) (pinValue (driven fuses (unpacked after)) (bit m (after .address))) 0
+    (g : Given) (p : ℕ) → Ready (withHalf g v) p →
+    Steps (withHalf g v) p n (withHalf g after) (pinValue (driven (g .fuses) (unpacked after)) (bit (g .memory) (after .address))) 0
 QuickTo v n Other = Unit

@@ -13,7 +13,7 @@ returns-2 c =
     let found = c .before .before .before in
     let checked = found .before .before .before in
     rw (c .pin .ensures)
-    (quick-told _ _ _ _ _ (sym (checked .before .quick-state-refusal .ensures) ∙ checked .if1 .left)
+    (quick-told _ _ _ (sym (checked .before .quick-state-refusal .ensures) ∙ checked .if1 .left)
     (rw (found .next .given .1) at (found .before .before .step .ensures)))
 
 pub step-told-spec : {M : Type 1} → statement M

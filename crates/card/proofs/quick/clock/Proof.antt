@@ -16,7 +16,7 @@ returns c =
     let off = c .before in
     let start = off .before .before in
     let vcc = sym (off .before .is-set .ensures) ∙ not-true (off .before .is-set .result) (off .if1 .taken) in
-    rw (c .follows .ensures) (quick-by _ _ CLK _ (start .pre) (λ m fuses p ready t. clk-unpowered ready _ t vcc))
+    rw (c .follows .ensures) (quick-by _ _ CLK _ (start .pre) (λ g p ready t. clk-unpowered ready _ t vcc))
 
 returns-2 : tie.Need-returns-2
 unfolding high place mask
@@ -26,7 +26,7 @@ returns-2 c =
     let start = on .before .before in
     let vcc = sym (on .before .is-set .ensures) ∙ not-false (on .before .is-set .result) (on .if1 .left) in
     let clk = sym (up .before .is-set2 .ensures) ∙ up .if2 .taken in
-    rw (c .clock-rises .ensures) (quick-by _ _ CLK _ (start .pre) (λ m fuses p ready t. clk-rises ready _ t vcc clk))
+    rw (c .clock-rises .ensures) (quick-by _ _ CLK _ (start .pre) (λ g p ready t. clk-rises ready _ t vcc clk))
 
 returns-3 : tie.Need-returns-3
 unfolding high place mask unpacked
@@ -42,7 +42,7 @@ returns-3 c =
     let rst = sym (reset .before .before .is-set3 .ensures) ∙ both .0 in
     let idle = sym (reset .before .is-set4 .ensures) ∙ both .1 in
     rw (c .unlatched .ensures, held .is-set5 .ensures)
-    (quick-by _ _ CLK _ (start .pre) (λ m fuses p ready t. clk-reset ready _ t vcc clk idle rst))
+    (quick-by _ _ CLK _ (start .pre) (λ g p ready t. clk-reset ready _ t vcc clk idle rst))
 
 returns-4 : tie.Need-returns-4
 unfolding QuickTo

@@ -11,7 +11,7 @@ use Rattle.card.proofs.quick.step.Tie as tie
 returns-2 : tie.Need-returns-2
 unfolding mask place
 returns-2 c =
-    rw (c .follows .ensures) (quick-by _ _ IO _ (c .before .if2 .taken) (λ m fuses p ready t. io-goes ready _ t))
+    rw (c .follows .ensures) (quick-by _ _ IO _ (c .before .if2 .taken) (λ g p ready t. io-goes ready _ t))
 
 returns-3 : tie.Need-returns-3
 unfolding mask place
