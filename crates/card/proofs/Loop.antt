@@ -113,6 +113,9 @@ module _ (start : Given) (steps answers₀ : List ℕ) where
       }
 
 module _ {start g : Given} {steps answers₀ answers : List ℕ} {p i : ℕ} (going : Going start steps answers₀ g answers p i) where
+  pub same-image : length (g .memory) ≡ length (start .memory)
+  same-image = going .ready .sized ∙ sym (going .start-sized)
+
   -- The whole run is the answers so far and the run of what is left.
   whole : run (cardOf start) steps ≡ behind (take i answers) (run (cardOf g) (drop i steps))
   whole =

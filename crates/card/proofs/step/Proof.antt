@@ -4,14 +4,17 @@ use borrow.Author.Needs.{needs}
 use Rattle.card.proofs.step.Statement.{statement}
 use Rattle.card.proofs.step.Tie as tie
 
+abbrev stepped : tie.After-struct-known → tie.After-step-told
+stepped c = c .before .before .before .before
+
 returns : tie.Need-returns
 returns c =
-    let told = c .before .before .before .before .before .step-told .ensures in
+    let told = stepped (c .before) .step-told .ensures in
     record { card = told .card; answer = rw (told .refusal) (refused-as _ (rw (told .refusal) at (c .if1 .taken))) }
 
 returns-2 : tie.Need-returns-2
 returns-2 c =
-    let told = c .before .before .before .before .before .step-told .ensures in
+    let told = stepped (c .before) .step-told .ensures in
     record { card = told .card; answer = rw (told .pin) (pinned-as _ _ (sym (told .refusal) ∙ c .if1 .left)) }
 
 pub step-spec : {M : Type 1} → statement M

@@ -6,26 +6,27 @@ use borrow.Author.Needs.{needs}
 use Rattle.card.proofs.in_programming.clock.Statement.{statement}
 use Rattle.card.proofs.in_programming.clock.Tie as tie
 
+abbrev start : tie.After-is-set → tie.Start
+start c = c .before .before
+
 returns : tie.Need-returns
 unfolding high place mask unpacked
 returns c =
     let asked = c .before .before in
-    let start = asked .before .before .before in
-    let ready = start .pre .0 in
-    let t = turned ready _ CLK (start .pre .1 .1) in
+    let pre = start (asked .before) .pre in
+    let t = turned (pre .0) _ CLK (pre .1 .1) in
     rw (c .with-fuses .ensures, c .before .refused .ensures)
-    (clk-refused ready _ t (start .pre .1 .0) (sym (asked .before .is-set .ensures) ∙ asked .if1 .taken))
+    (clk-refused (pre .0) _ t (pre .1 .0) (sym (asked .before .is-set .ensures) ∙ asked .if1 .taken))
 
 returns-2 : tie.Need-returns-2
 unfolding high place mask unpacked
 returns-2 c =
     let done = c .before .before .before .before .before .before in
     let asked = done .before .before in
-    let start = asked .before .before .before in
-    let ready = start .pre .0 in
-    let t = turned ready _ CLK (start .pre .1 .1) in
+    let pre = start (asked .before) .pre in
+    let t = turned (pre .0) _ CLK (pre .1 .1) in
     rw (c .with-fuses2 .ensures, c .before .read .ensures)
-    (clk-programs ready _ t (start .pre .1 .0) (sym (asked .before .is-set .ensures) ∙ asked .if1 .left) (done .clock-falls .ensures))
+    (clk-programs (pre .0) _ t (pre .1 .0) (sym (asked .before .is-set .ensures) ∙ asked .if1 .left) (done .clock-falls .ensures))
 
 pub clock-spec : {M : Type 1} → statement M
 clock-spec =

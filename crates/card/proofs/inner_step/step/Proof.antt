@@ -8,17 +8,20 @@ use borrow.Author.Needs.{needs}
 use Rattle.card.proofs.inner_step.step.Statement.{statement}
 use Rattle.card.proofs.inner_step.step.Tie as tie
 
+abbrev start : tie.After-struct-known → tie.Start
+start c = c .before .before
+
 clock-requires : tie.Need-clock-requires
 clock-requires c κs =
     let asked = c .before in
     let line = asked .before .before in
-    (line .before .before .before .pre, (sym (asked .before .is-set .ensures) ∙ asked .if2 .taken, line .if1 .taken))
+    (start (line .before) .pre, (sym (asked .before .is-set .ensures) ∙ asked .if2 .taken, line .if1 .taken))
 
 clock-requires-2 : tie.Need-clock-requires-2
 clock-requires-2 c κs =
     let asked = c .before in
     let line = asked .before .before in
-    (line .before .before .before .pre, (sym (asked .before .is-set .ensures) ∙ asked .if2 .left, line .if1 .taken))
+    (start (line .before) .pre, (sym (asked .before .is-set .ensures) ∙ asked .if2 .left, line .if1 .taken))
 
 returns-2 : tie.Need-returns-2
 returns-2 c = rw (c .with-fuses .ensures) (c .before .clock2 .ensures)
@@ -27,10 +30,10 @@ returns-3 : tie.Need-returns-3
 unfolding mask place unpacked
 returns-3 c =
     let cut = c .before in
-    let start = cut .before .before .before .before .before in
+    let ready = start (cut .before .before .before) .pre in
     let two = both _ _ (cut .if3 .taken) in
     let programming = sym (cut .before .is-set2 .ensures) ∙ two .1 in
-    rw (c .power .ensures) (power-cut (start .pre) _ (turned (start .pre) _ VCC (eqb-true _ 1 (two .0))) programming)
+    rw (c .power .ensures) (power-cut ready _ (turned ready _ VCC (eqb-true _ 1 (two .0))) programming)
 
 returns-4 : tie.Need-returns-4
 returns-4 c = rw (c .with-fuses2 .ensures) (c .before .other-than-clock .ensures)
