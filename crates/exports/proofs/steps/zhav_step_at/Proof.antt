@@ -17,7 +17,7 @@ use prog.Wp.{Heap, Calls, Loops, WpFn, Tables}
 use ghost.Atoms.{Atoms, sem}
 use contract.Monad.{Fun, fact}
 use contract.Running.{givenOf, tables, tablesOf}
-use types.Kit.{Given, ‵, raw, some, later, _⊛_, ⋆, _$_, _∵_, !, qed, by, done, suffices, await}
+use types.Kit.{Given, Item, ‵, raw, some, later, _⊛_, ⋆, _$_, _∵_, !, qed, by, done, suffices, await}
 use types.Kit.{move, keep, drop, frame, use1, use2, split, join, pick, rewrite, fsplit, fsplit3, fjoin, fjoin3, feqL, feqI}
 use types.Run.{look, init, forget, stop, hop, fld, from, load, addr, of-opd, and-then, no-more, assigns, land, returns}
 use types.Run.{enter, alloc1, alloc0, params1, pass1, pass0, free1, free0}
@@ -111,16 +111,25 @@ module _ {M : Type 1} (𝓤 : URA M) (H : Heap 𝓤) (A : Atoms 𝓤) (W : Given
   abbrev vals : List Val × (List Val × (List Val × (List Val × Unit {0})))
   vals = (s ∷ [], (vint w8 f ∷ [], (vptr b′ o′ ∷ [], (vint w8 n ∷ [], tt))))
 
+  abbrev in-order : List Val
+  in-order = s ∷ vint w8 f ∷ vptr b′ o′ ∷ vint w8 n ∷ []
+
+  abbrev bound : walkOf 𝓤 H A step-at.ended stayed (step-at.clauses 𝓤 H A at-mem run) .Ghost
+  bound = (((κ, (κ′, tt)), (q, (q′, tt)), tt, a, vals), tt)
+
   abbrev Post : Val → SProp 𝓤
-  Post = walkOf 𝓤 H A step-at.ended stayed (step-at.clauses 𝓤 H A at-mem run) .post (((κ, (κ′, tt)), (q, (q′, tt)), tt, a, vals), tt)
+  Post = walkOf 𝓤 H A step-at.ended stayed (step-at.clauses 𝓤 H A at-mem run) .post bound
 
   -- what `zhav_step`'s own step promises of what it hands back, at some last image
   abbrev Stepped : ZhavStepped → List ℕ → Type 0
   Stepped r zs = StepTold (given ys f h) n (given zs (r .fuses) (r .half)) (r .answer) (r .refusal)
 
   -- what the callee's triple binds outside: the image's borrow as it is, and the half by value
+  abbrev passed : RefT (List ℕ) × (ℕ × (Volatile × (ℕ × Unit {0})))
+  passed = (x, (f, (h, (n, tt))))
+
   abbrev to-step : Step 𝓤 H A at-mem run .Ghost
-  to-step = (((κ, tt), (q, tt), tt, (x, (f, (h, (n, tt)))), (s ∷ [], (vint w8 f ∷ [], (half h ∷ [], (vint w8 n ∷ [], tt))))), tt)
+  to-step = (((κ, tt), (q, tt), tt, passed, (s ∷ [], (vint w8 f ∷ [], (half h ∷ [], (vint w8 n ∷ [], tt))))), tt)
 
   goes : Is T.the-row h (half h ∷ [])
       → ent 𝓤 (sep 𝓤 (sep 𝓤 (A .lft κ q) (sem 𝓤 H A ftrue)) (sem 𝓤 H A (MutSlice (named 0) κ u8 .own x (s ∷ []))))
@@ -132,16 +141,19 @@ module _ {M : Type 1} (𝓤 : URA M) (H : Heap 𝓤) (A : Atoms 𝓤) (W : Given
       owned ! u8 (Is u8) (uint-makes 𝓤 H A W w8) f _ (refl, f-fits) $ fjoin ! $
       move ! (2 ∷ 0 ∷ []) $ fjoin ! $ move ! (1 ∷ 0 ∷ []) $ join ! $ frame ! $ done !
 
+  -- what is held at exit
+  abbrev behind : ZhavStepped → List ℕ → List (Item 𝓤)
+  behind r zs =
+      ‵ (fobs γ′ (T.the-row .coded .code (r .half))) ∷ ‵ (fbor κ′ (Body (mem T.the-row) b′ o′ γ′)) ∷ ‵ (flft κ′ q′) ∷
+      (‵ (flft κ q) ⊛ ‵ ftrue) ∷ ‵ (finally u8 γ zs) ∷ []
+
   exits : (r : ZhavStepped) (zs : List ℕ) → Stepped r zs → length zs ≡ length ys
       → Is U.the-row (toldBy r) (told (toldBy r) ∷ [])
-      → ent 𝓤 (⋆ 𝓤 H A (‵ (fobs γ′ (T.the-row .coded .code (r .half))) ∷ ‵ (fbor κ′ (Body (mem T.the-row) b′ o′ γ′)) ∷ ‵ (flft κ′ q′) ∷
-      (‵ (flft κ q) ⊛ ‵ ftrue) ∷ ‵ (finally u8 γ zs) ∷ [])) (Post (told (toldBy r)))
+      → ent 𝓤 (⋆ 𝓤 H A (behind r zs)) (Post (told (toldBy r)))
   exits r zs e l is =
-      qed W (‵ (fobs γ′ (T.the-row .coded .code (r .half))) ∷ ‵ (fbor κ′ (Body (mem T.the-row) b′ o′ γ′)) ∷ ‵ (flft κ′ q′) ∷
-      (‵ (flft κ q) ⊛ ‵ ftrue) ∷ ‵ (finally u8 γ zs) ∷ []) ∵
-      suffices ! _ (ends-at 𝓤 H A step-at.ended stayed (step-at.clauses 𝓤 H A at-mem run) W
-      (((κ, (κ′, tt)), (q, (q′, tt)), tt, a, vals), tt) (told (toldBy r)) (toldBy r) (zs, (tt, (r .half, (tt, tt))))
-      (l, (tt, (tt, (tt, tt))))) $
+      qed W (behind r zs) ∵
+      suffices ! _ (ends-at 𝓤 H A step-at.ended stayed (step-at.clauses 𝓤 H A at-mem run) W bound (told (toldBy r)) (toldBy r)
+      (zs, (tt, (r .half, (tt, tt)))) (l, (tt, (tt, (tt, tt))))) $
       says ! e $ move ! (3 ∷ []) $ split ! $ move ! (4 ∷ 1 ∷ []) $ join ! $ move ! (1 ∷ 0 ∷ []) $ join ! $ frame ! $
       feqI ! (List Val) (vptr b′ o′ ∷ []) (vptr b′ o′ ∷ []) refl $ fjoin3 ! $ nothing ! $
       owned ! u8 (Is u8) (uint-makes 𝓤 H A W w8) n _ (refl, n-fits) $ fjoin ! $ move ! (1 ∷ 0 ∷ []) $ fjoin ! $
@@ -151,11 +163,11 @@ module _ {M : Type 1} (𝓤 : URA M) (H : Heap 𝓤) (A : Atoms 𝓤) (W : Given
   module _ (C : Calls 𝓤 H) (Λ : Loops 𝓤 H) (fm : FmC 𝓤 H (W .laws) C) (known : Triple 𝓤 (C #step) (Step 𝓤 H A at-mem run)) where
     walk : Room u8 (length ys)
         → ent 𝓤 (onEntry 𝓤 H A step-at.signature (κ, (κ′, tt)) (q, (q′, tt)) a vals)
-        (WpFn 𝓤 H C Λ code.function (s ∷ vint w8 f ∷ vptr b′ o′ ∷ vint w8 n ∷ []) Post)
+        (WpFn 𝓤 H C Λ code.function in-order Post)
     walk room =
         qed W ((‵ (flft κ q) ⊛ ‵ (flft κ′ q′) ⊛ ‵ ftrue) ∷
         ‵ (owns (MutSlice (named 0) κ u8 ∷ u8 ∷ MutRef (named 1) κ′ T.the-row ∷ u8 ∷ []) a vals) ∷ []) ∵
-        enter ! C Λ code.function (s ∷ vint w8 f ∷ vptr b′ o′ ∷ vint w8 n ∷ []) _ $
+        enter ! C Λ code.function in-order _ $
         alloc1 ! (λ l₀. alloc1 ! (λ l₁. alloc1 ! (λ l₂. alloc1 ! (λ l₃. alloc1 ! (λ l₄.
         alloc1 ! (λ l₅. alloc1 ! (λ l₆. alloc1 ! (λ l₇. alloc1 ! (λ l₈. alloc0 ! $ params1 ! $
         pass1 ! (init ! 14 refl (tt, (tt, (record { fits = room .0 }, tt)))) $ pass1 ! (init ! 12 refl (tt, record { fits = f-fits })) $
@@ -186,12 +198,12 @@ module _ {M : Type 1} (𝓤 : URA M) (H : Heap 𝓤) (A : Atoms 𝓤) (W : Given
         (and-then ! (load ! (from ! (stop !)) (look ! 18 refl))
         (and-then ! (load ! (from ! (stop !)) (look ! 6 refl)) (and-then ! (load ! (from ! (stop !)) (look ! 14 refl)) (no-more !))))) (λ w.
         use1 W (later (some (λ (r : ZhavStepped). ((‵ (flft κ q) ⊛ ‵ ftrue) ⊛ ‵ (S.the-row .own r (w ∷ []))) ⊛
-        raw (ensured 𝓤 H A step.ended (step.clauses 𝓤 H A at-mem run) (κ, tt) (x, (f, (h, (n, tt)))) tt r)))) (id⊢ 𝓤 _) $
+        raw (ensured 𝓤 H A step.ended (step.clauses 𝓤 H A at-mem run) (κ, tt) passed tt r)))) (id⊢ 𝓤 _) $
         await ! tt $ pick ! (λ r.
         -- what `step_lent` ensures, at some last image
         split ! $ move ! (1 ∷ []) $
         use1 W (some (λ (zs : List ℕ × (Unit {0} × (Unit {0} × (Unit {0} × Unit {0})))).
-        ‵ (lasts step.ended (κ, tt) (x, (f, (h, (n, tt)))) zs) ⊛ raw (fact 𝓤 (Stepped r (zs .0))))) (id⊢ 𝓤 _) $
+        ‵ (lasts step.ended (κ, tt) passed zs) ⊛ raw (fact 𝓤 (Stepped r (zs .0))))) (id⊢ 𝓤 _) $
         pick ! (λ zs. split ! $ move ! (1 ∷ []) $ heard ! (Stepped r (zs .0)) (λ e.
         fsplit ! $ fsplit ! $ move ! (1 ∷ []) $ feqL ! (λ l.
         move ! (2 ∷ []) $ split ! $ move ! (1 ∷ []) $ peeks ! S.the-row (Is S.the-row) (shows 𝓤 H A S.the-row) r (w ∷ []) (λ is.
@@ -215,11 +227,13 @@ module _ {M : Type 1} (𝓤 : URA M) (H : Heap 𝓤) (A : Atoms 𝓤) (W : Given
         -- the locals go
         -- [obs; the borrow; its token; what was handed back; the image's token; its last bytes; …; what n owns;
         --  _8; …; _7; …; _6; …; _5; …; _4; …; _3; …; _2; …; _1; …; _0; …]
-        returns ! (look ! 24 refl) $ forget ! 8 refl $ forget ! 10 refl $ forget ! 12 refl $ forget ! 14 refl $ forget ! 16 refl $
-        forget ! 18 refl $ forget ! 20 refl $ forget ! 22 refl $ forget ! 24 refl $
-        move ! (24 ∷ 25 ∷ []) $ free1 ! $ move ! (22 ∷ 23 ∷ []) $ free1 ! $ move ! (20 ∷ 21 ∷ []) $ free1 ! $ move ! (18 ∷ 19 ∷ []) $
-        free1 ! $ move ! (16 ∷ 17 ∷ []) $ free1 ! $ move ! (14 ∷ 15 ∷ []) $ free1 ! $ move ! (12 ∷ 13 ∷ []) $ free1 ! $
-        move ! (10 ∷ 11 ∷ []) $ free1 ! $ move ! (8 ∷ 9 ∷ []) $ free1 ! $ free0 ! $
+        returns ! (look ! 24 refl) $
+        move ! (8 ∷ 9 ∷ 10 ∷ 11 ∷ 12 ∷ 13 ∷ 14 ∷ 15 ∷ 16 ∷ 17 ∷ 18 ∷ 19 ∷ 20 ∷ 21 ∷ 22 ∷ 23 ∷ 24 ∷ 25 ∷ []) $
+        forget ! 0 refl $ forget ! 2 refl $ forget ! 4 refl $ forget ! 6 refl $ forget ! 8 refl $
+        forget ! 10 refl $ forget ! 12 refl $ forget ! 14 refl $ forget ! 16 refl $
+        move ! (16 ∷ 17 ∷ []) $ free1 ! $ move ! (14 ∷ 15 ∷ []) $ free1 ! $ move ! (12 ∷ 13 ∷ []) $ free1 ! $
+        move ! (10 ∷ 11 ∷ []) $ free1 ! $ move ! (8 ∷ 9 ∷ []) $ free1 ! $ move ! (6 ∷ 7 ∷ []) $ free1 ! $
+        move ! (4 ∷ 5 ∷ []) $ free1 ! $ move ! (2 ∷ 3 ∷ []) $ free1 ! $ move ! (0 ∷ 1 ∷ []) $ free1 ! $ free0 ! $
         keep ! (0 ∷ 1 ∷ 2 ∷ 4 ∷ 5 ∷ []) $ by ! (exits r (zs .0) e l (told-is r w is)))))))))))))))))))
 
 module _ {M : Type 1} (𝓤 : URA M) (H : Heap 𝓤) (A : Atoms 𝓤) (W : Given 𝓤 H A) (at-mem : Memory → SProp 𝓤) (run : Routine → Fun 𝓤) where
