@@ -13,7 +13,8 @@ use Rattle.rules.specs.File.{fuseSection, stepCount, stepSection, sessionRefusa
 use Rattle.file.specs.declared.CardFile.{CardFile}
 use Rattle.file.specs.declared.Session.{Session}
 use Rattle.file.specs.declared.Session.the-variants.{Parts, Refused as Barred}
-use Rattle.file.specs.Opening.{refusalInCard, refusalInSession, sessionSteps, sessionAnswer, inMemory, handedSteps, CardOpened, SessionOpened}
+use Rattle.file.specs.Opening.{refusalInCard, refusalInSession, sessionSteps, sessionAnswer, inMemory, handedSteps}
+use Rattle.file.specs.Opening.{CardOpened, SessionOpened}
 use Rattle.exports.specs.declared.acts.ZhavMade.{ZhavMade}
 use Rattle.exports.specs.declared.openers.ZhavCard.{ZhavCard}
 use Rattle.exports.specs.declared.openers.ZhavSession.{ZhavSession}

@@ -1,5 +1,5 @@
--- What each call of the maker and of the openers promises for every input: its numbers, and what it leaves of all that is lent. A step and a
--- run promise what the card's do (`StepTold`, `RunAnswered` in `card`'s `Contracts`).
+-- What each call of the maker and of the openers promises for every input: its numbers, and what it leaves of all that is lent. A step
+-- and a run promise what the card's do (`StepTold`, `RunAnswered` in `card`'s `Contracts`).
 use Prim.Native.Nat.{ℕ}
 use mathlib.Core.Path.{_≡_}
 use mathlib.Core.List.{List}
@@ -16,7 +16,8 @@ pub record ActTold (refused : ℕ) (steps buffer : List ℕ) (r : ZhavMade) (aft
   pub answer : r ≡ madeOf (made refused steps (length buffer))
   pub bytes : after ≡ inBuffer (made refused steps (length buffer)) steps buffer
 
--- The openers: their numbers and the memory buffer. A session's numbers give the step section as that part of the file, the empty part if refused.
+-- The openers: their numbers and the memory buffer. A session's numbers give the step section as that part of the file, the empty part
+-- if refused.
 pub record CardTold (file memory : List ℕ) (r : ZhavCard) (after : List ℕ) : Type 0 where
   pub answer : r ≡ cardFileOf (cardAnswer file (length memory))
   pub bytes : after ≡ inMemory (refusalInCard (cardAnswer file (length memory))) file memory

@@ -9,7 +9,8 @@ use Rattle.rules.specs.CaseForms.{sample, cardFile as cardBytes, session as ses
 use Rattle.file.specs.declared.CardFile.the-variants as card
 use Rattle.file.specs.declared.Session.{Session}
 use Rattle.file.specs.declared.Session.the-variants as session
-use Rattle.file.specs.Opening.{refusalInCard, refusalInSession, cardFuses, sessionFuses, sessionSteps, CardOpened, SessionOpened, Handed}
+use Rattle.file.specs.Opening.{refusalInCard, refusalInSession, cardFuses, sessionFuses, sessionSteps}
+use Rattle.file.specs.Opening.{CardOpened, SessionOpened, Handed}
 
 -- The lent memory buffer, before anything is opened into it.
 unfoldable pub buffer : List ℕ

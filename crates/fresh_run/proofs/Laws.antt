@@ -40,7 +40,9 @@ module _ (m : List ℕ) (fuses : ℕ) (steps answers : List ℕ) where
     pub shown : take (r .done) pins ≡ freshRun m fuses steps .answers
 
   pub from-fresh :
-      {r : Ran} {after pins : List ℕ} → length answers ≡ longest → RunAnswered start steps answers (given after (r .fuses) (r .volatile)) (r .done) (r .refusal) pins → FromFresh r after pins
+      {r : Ran} {after pins : List ℕ} → length answers ≡ longest
+      → RunAnswered start steps answers (given after (r .fuses) (r .volatile)) (r .done) (r .refusal) pins
+      → FromFresh r after pins
   unfolding freshRun answersIn
   from-fresh {r} {after} {pins} room a =
       record {

@@ -31,7 +31,8 @@ zone a =
     (cond (eqb a 1481) FuseECEN
     (cond (between 1504 1519 a) FuseISS Gap)))))))))))))
 
--- The zones in the order of their addresses: the table of rights has the rows 0 to 9, block and fuses stand beside it, a gap's row has no rights.
+-- The zones in the order of their addresses: the table of rights has the rows 0 to 9, block and fuses stand beside it, a gap's row has no
+-- rights.
 abbrev pub row : Zone → ℕ
 row FZ = 0
 row IZ = 1

@@ -36,7 +36,9 @@ pub comes-there : (v : Volatile) (n : ℕ) → walkedHalf v n .address ≡ walke
 unfolding walkedHalf walkedTo packed clkRises goneOn unpacked
 comes-there v n = go (digit 2 n)
   where
-    go : (up : Bool) → cond up (clkRises n (unpacked v)) (goneOn n (v .address + 1) (unpacked v)) .address ≡ cond up (v .address) (v .address + 1)
+    go :
+        (up : Bool)
+        → cond up (clkRises n (unpacked v)) (goneOn n (v .address + 1) (unpacked v)) .address ≡ cond up (v .address) (v .address + 1)
     go true = refl
     go false = refl
 

@@ -17,8 +17,8 @@ unfoldable pub calm : Volatile → ℕ → Bool
 calm v n = eqb (bitXor (v .lines) n) 4 && (eqb (v .flags / 8) 0 || eqb (v .flags / 8) (bitAnd (v .lines) 4 / 2))
 
 -- Addresses that CLK's fall comes to without a compare before and without an effect of the arrival, and that neither level nor fuses guard:
--- within FZ and IZ, in SCAC past the end of match and within CPZ, in AZ past its flags and before its last, within EC, and past the first of
--- MTZ.
+-- within FZ and IZ, in SCAC past the end of match and within CPZ, in AZ past its flags and before its last, within EC, and past the first
+-- of MTZ.
 unfoldable pub plainAt : ℕ → Bool
 plainAt a = ltb a 80 || (between 105 175 a || (between 178 1198 a || (between 1233 1359 a || between 1361 1519 a)))
 
@@ -26,8 +26,8 @@ plainAt a = ltb a 80 || (between 105 175 a || (between 178 1198 a || (between 12
 unfoldable pub walkedTo : ℕ → ℕ → ℕ
 walkedTo a n = cond (digit 2 n) a (a + 1)
 
--- A step that walks, n being a byte: CLK alone rises or falls, with VCC on, RST and PGM low, of a card that 10, 14 and 9 let pass, to such an
--- address.
+-- A step that walks, n being a byte: CLK alone rises or falls, with VCC on, RST and PGM low, of a card that 10, 14 and 9 let pass, to
+-- such an address.
 unfoldable pub walks : Given → ℕ → Bool
 unfolding calm plainAt walkedTo
 walks g n =

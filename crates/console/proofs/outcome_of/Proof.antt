@@ -18,4 +18,4 @@ returns-3 c =
     more _ _ _ (rw read-back at (c .before .before .if1 .left)) (rw read-back at (c .before .count .ensures .1)) (c .if2 .left)
 
 pub outcome-of-spec : {M : Type 1} → statement M
-outcome-of-spec = tie.close (tie.spec returns (λ c κs. search needs) returns-2 returns-3)
+outcome-of-spec = tie.close (tie.spec returns (search needs) returns-2 returns-3)

@@ -45,20 +45,12 @@ read-full-spec =
     (tie.spec
     Inv-loop
     μ-loop
-    (λ c. search needs)
-    (λ c. search needs)
-    (λ c. search needs)
-    (λ c. search needs)
-    (λ c κs. search needs)
-    (λ c. search needs)
-    (λ c. search needs)
-    (λ c. search needs)
-    (λ c. search needs)
-    (λ c. search needs)
+    (search needs) (search needs) (search needs) (search needs) (search needs) (search needs) (search needs) (search needs)
+    (search needs) (search needs)
     returns-2
-    (λ c. search needs)
+    (search needs)
     add-done
     loop-less
     loop-again
-    (λ c. search needs)
+    (search needs)
     returns-3)

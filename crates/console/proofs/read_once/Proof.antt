@@ -7,4 +7,4 @@ returns : tie.Need-returns
 returns c = rw (c .outcome-of .ensures, ← c .before .before .before .before .read .kept .1 .0) (part _ _)
 
 pub read-once-spec : {M : Type 1} → statement M
-read-once-spec = tie.close (tie.spec (λ c κs. search needs) (λ c κs. search needs) (λ c. search needs) returns)
+read-once-spec = tie.close (tie.spec (search needs) (search needs) (search needs) returns)

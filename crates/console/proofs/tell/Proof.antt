@@ -13,10 +13,4 @@ slice-aggregate-write-all c = sym (length-take-le _ _ (array-share-prefix-line (
 pub tell-spec : {M : Type 1} → statement M
 tell-spec =
     tie.close
-    (tie.spec
-    (λ c. search needs)
-    (λ c κs. search needs)
-    array-share-prefix-line
-    slice-aggregate-write-all
-    (λ c κs. search needs)
-    (λ c. search needs))
+    (tie.spec (search needs) (search needs) array-share-prefix-line slice-aggregate-write-all (search needs) (search needs))

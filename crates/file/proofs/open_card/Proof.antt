@@ -33,7 +33,7 @@ pub open-card-spec : {M : Type 1} → statement M
 open-card-spec =
     tie.close
     (tie.spec
-    (λ c κs. search needs) returns
+    (search needs) returns
     (λ c κs. (sound (c .before) .sized, omega (arith, sound (c .before) .long)))
     (λ c. omega (arith, sound (c .before .before .before .before .before) .long))
-    (λ c. search needs) returns-2)
+    (search needs) returns-2)

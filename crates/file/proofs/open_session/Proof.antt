@@ -36,8 +36,8 @@ pub open-session-spec : {M : Type 1} → statement M
 open-session-spec =
     tie.close
     (tie.spec
-    (λ c κs. search needs) returns
+    (search needs) returns
     (λ c κs. (sound (c .before) .parts .sized, omega (arith, sound (c .before) .counted)))
     (λ c. omega (arith, sound (c .before .before .before .before .before) .counted))
     (λ c κs. omega (arith, sound (c .before .before .before .before .before) .counted))
-    (λ c. search needs) returns-2)
+    (search needs) returns-2)

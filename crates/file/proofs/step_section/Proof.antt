@@ -39,7 +39,8 @@ returns-2 c =
     let z = eq-eqb _ 0 (c .before .before .if1 .left) in
     record {
       bytes =
-          ap (λ (n : ℕ). take n (drop stepsAt f)) (less stepsAt (c .before .count .result)) ∙ rw (← e, z, c .before .count .ensures .0) refl;
+          ap (λ (n : ℕ). take n (drop stepsAt f)) (less stepsAt (c .before .count .result)) ∙
+          rw (← e, z, c .before .count .ensures .0) refl;
       block = refl;
       offset = rw (← e, z) refl;
     }
@@ -48,5 +49,5 @@ pub step-section-spec : {M : Type 1} → statement M
 step-section-spec =
     tie.close
     (tie.spec
-    (λ c κs. search needs) (λ c. search needs) (λ c. search needs) (λ c. search needs) returns count-requires
-    (λ c. search needs) (λ c. search needs) (λ c. search needs) part-result-end-2 returns-2)
+    (search needs) (search needs) (search needs) (search needs) returns count-requires
+    (search needs) (search needs) (search needs) part-result-end-2 returns-2)

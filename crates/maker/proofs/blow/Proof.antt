@@ -7,4 +7,4 @@ returns c = rw (c .before .before .before .before .before .blow .ensures) at (c 
 
 pub blow-spec : {M : Type 1} → statement M
 blow-spec =
-    tie.close (tie.spec (λ c κs. search needs) (λ c. search needs) (λ c κs. search needs) (λ c. search needs) returns)
+    tie.close (tie.spec (search needs) (search needs) (search needs) (search needs) returns)

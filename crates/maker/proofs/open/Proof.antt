@@ -44,5 +44,4 @@ returns-2 c =
 pub open-spec : {M : Type 1} → statement M
 open-spec =
     tie.close
-    (tie.spec
-    cast-k open-refusal-requires returns (λ c κs. search needs) (λ c κs. search needs) (λ c. search needs) returns-2)
+    (tie.spec cast-k open-refusal-requires returns (search needs) (search needs) (search needs) returns-2)

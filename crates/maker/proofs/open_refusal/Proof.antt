@@ -22,4 +22,4 @@ returns-3 c =
     rw (ne-eqb (a .k) 8 (omega arith), le-ltb (a .room) (223 + 2 * a .k) (omega arith)) refl
 
 pub open-refusal-spec : {M : Type 1} → statement M
-open-refusal-spec = tie.close (tie.spec (λ c. search needs) (λ c. search needs) returns returns-2 returns-3)
+open-refusal-spec = tie.close (tie.spec (search needs) (search needs) returns returns-2 returns-3)

@@ -9,4 +9,4 @@ returns c = rw (c .before .before .before .before .before .program .ensures) at 
 
 pub program-spec : {M : Type 1} → statement M
 program-spec =
-    tie.close (tie.spec (λ c κs. search needs) (λ c. search needs) (λ c κs. search needs) (λ c. search needs) returns)
+    tie.close (tie.spec (search needs) (search needs) (search needs) (search needs) returns)

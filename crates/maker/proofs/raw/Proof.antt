@@ -11,4 +11,4 @@ returns-2 : tie.Need-returns-2
 returns-2 c = wrote 0 _ _ refl _ refl (c .before .before .before .before .if1 .left) (c .before .before .put .ensures)
 
 pub raw-spec : {M : Type 1} → statement M
-raw-spec = tie.close (tie.spec returns (λ c κs. search needs) (λ c. search needs) returns-2)
+raw-spec = tie.close (tie.spec returns (search needs) (search needs) returns-2)

@@ -10,4 +10,4 @@ returns c = rw (c .before .before .before .before .before .pulse .ensures) at (c
 
 pub reset-spec : {M : Type 1} → statement M
 reset-spec =
-    tie.close (tie.spec (λ c κs. search needs) (λ c. search needs) (λ c κs. search needs) (λ c. search needs) returns)
+    tie.close (tie.spec (search needs) (search needs) (search needs) (search needs) returns)

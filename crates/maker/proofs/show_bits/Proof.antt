@@ -20,5 +20,4 @@ returns-2 c =
 pub show-bits-spec : {M : Type 1} → statement M
 show-bits-spec =
     tie.close
-    (tie.spec
-    (λ c. search needs) (λ c. search needs) returns (λ c κs. search needs) (λ c. search needs) returns-2)
+    (tie.spec (search needs) (search needs) returns (search needs) (search needs) returns-2)

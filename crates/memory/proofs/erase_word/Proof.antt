@@ -10,5 +10,4 @@ returns c = rw (c .before .before .store2 .ensures, c .before .before .before .b
 pub erase-word-spec : {M : Type 1} → statement M
 erase-word-spec =
     tie.close
-    (tie.spec
-    (λ c. search needs) (λ c κs. search needs) (λ c. search needs) (λ c κs. search needs) (λ c. search needs) returns)
+    (tie.spec (search needs) (search needs) (search needs) (search needs) (search needs) returns)

@@ -39,5 +39,4 @@ returns c =
 pub fill-spec : {M : Type 1} → statement M
 fill-spec =
     tie.close
-    (tie.spec
-    Inv-loop μ-loop loop-holds slice-write-part (λ c. omega arith) (λ c. omega arith) loop-again same-length returns)
+    (tie.spec Inv-loop μ-loop loop-holds slice-write-part (λ c. omega arith) (λ c. omega arith) loop-again same-length returns)

@@ -11,4 +11,4 @@ returns-2 : tie.Need-returns-2
 returns-2 c = sym (digit-past 32 (c .before .args .k) (c .before .args .x) (c .before .fits .x .fits) (c .if1 .left))
 
 pub is-set-spec : {M : Type 1} → statement M
-is-set-spec = tie.close (tie.spec (λ c. search needs) returns returns-2)
+is-set-spec = tie.close (tie.spec (search needs) returns returns-2)

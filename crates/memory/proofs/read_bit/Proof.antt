@@ -17,5 +17,4 @@ returns-2 c = sym (bit-past (now (c .before .args .image)) (c .before .args .a) 
 pub read-bit-spec : {M : Type 1} → statement M
 read-bit-spec =
     tie.close
-    (tie.spec
-    (λ c. search needs) (λ c. search needs) (λ c. search needs) (λ c. search needs) returns returns-2)
+    (tie.spec (search needs) (search needs) (search needs) (search needs) returns returns-2)

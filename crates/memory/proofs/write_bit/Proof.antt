@@ -25,6 +25,4 @@ returns-2 c = sym (set-out (now (c .before .args .image)) (c .before .args .a / 
 pub write-bit-spec : {M : Type 1} → statement M
 write-bit-spec =
     tie.close
-    (tie.spec
-    (λ c. search needs) (λ c. search needs) (λ c. search needs) sub-image (λ c. search needs) (λ c. search needs)
-    returns returns-2)
+    (tie.spec (search needs) (search needs) (search needs) sub-image (search needs) (search needs) returns returns-2)

@@ -69,30 +69,18 @@ carry-out-spec =
     tie.close
     (tie.spec
     enum-told
-    (λ c. search needs)
-    (λ c κs. search needs)
-    (λ c κs. search needs)
-    (λ c. search needs)
-    (λ c κs. search needs)
-    (λ c. search needs)
-    (λ c κs. search needs)
-    (λ c. search needs)
-    (λ c κs. search needs)
-    (λ c. search needs)
-    (λ c κs. search needs)
-    (λ c. search needs)
-    (λ c. search needs)
-    (λ c. search needs)
+    (search needs) (search needs) (search needs) (search needs) (search needs) (search needs) (search needs) (search needs)
+    (search needs) (search needs) (search needs) (search needs) (search needs) (search needs)
     returns
-    (λ c. search needs)
+    (search needs)
     returns-2
-    (λ c. search needs)
+    (search needs)
     returns-3
-    (λ c. search needs)
+    (search needs)
     returns-4
-    (λ c. search needs)
+    (search needs)
     returns-5
-    (λ c. search needs)
+    (search needs)
     returns-6
     returns-7
     returns-8

@@ -6,4 +6,4 @@ returns : tie.Need-returns
 returns c = rw (c .power-falls .ensures)
 
 pub power-falls-spec : {M : Type 1} → statement M
-power-falls-spec = tie.close (tie.spec (λ c κs. search needs) returns)
+power-falls-spec = tie.close (tie.spec (search needs) returns)

@@ -10,4 +10,4 @@ returns c =
     sym (none-refused _ (few .before .if1 .taken) (few .if2 .taken) (sym (c .before .plainly-sound .ensures) ∙ c .if3 .taken))
 
 pub quick-state-refusal-spec : {M : Type 1} → statement M
-quick-state-refusal-spec = tie.close (tie.spec (λ c κs. search needs) returns (λ c κs. search needs) (λ c. search needs))
+quick-state-refusal-spec = tie.close (tie.spec (search needs) returns (search needs) (search needs))

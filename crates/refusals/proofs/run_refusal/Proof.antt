@@ -21,4 +21,4 @@ returns-4 c =
     sym (all-well _ _ _ (sym (long .before .before .state-refusal .ensures) ∙ long .before .if1 .left) (long .if2 .left) (c .if3 .left))
 
 pub run-refusal-spec : {M : Type 1} → statement M
-run-refusal-spec = tie.close (tie.spec (λ c κs. search needs) returns returns-2 returns-3 returns-4)
+run-refusal-spec = tie.close (tie.spec (search needs) returns returns-2 returns-3 returns-4)

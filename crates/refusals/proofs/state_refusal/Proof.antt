@@ -26,4 +26,4 @@ returns-4 c =
     rw (eq-eqb _ 174 (few .before .if1 .left), le-ltb 7 _ (few .if2 .left), sym (c .before .made-up-by-clause .ensures) ∙ c .if3 .left)
 
 pub state-refusal-spec : {M : Type 1} → statement M
-state-refusal-spec = tie.close (tie.spec returns returns-2 (λ c κs. search needs) returns-3 returns-4)
+state-refusal-spec = tie.close (tie.spec returns returns-2 (search needs) returns-3 returns-4)

@@ -18,6 +18,4 @@ returns-2 c =
 pub bad-spec : {M : Type 1} → statement M
 bad-spec =
     tie.close
-    (tie.spec
-    (λ c κs. search needs) (λ c. search needs) returns (λ c. search needs) (λ c κs. search needs) (λ c. search needs)
-    returns-2)
+    (tie.spec (search needs) (search needs) returns (search needs) (search needs) (search needs) returns-2)

@@ -14,4 +14,4 @@ returns-2 c =
 
 pub four-lines-spec : {M : Type 1} → statement M
 four-lines-spec =
-    tie.close (tie.spec (λ c κs. search needs) returns (λ c κs. search needs) (λ c. search needs) returns-2)
+    tie.close (tie.spec (search needs) returns (search needs) (search needs) returns-2)

@@ -67,5 +67,5 @@ pub put-answers-spec : {M : Type 1} → statement M
 put-answers-spec =
     tie.close
     (tie.spec
-    Inv-loop μ-loop (λ c κs. search needs) loop-holds (λ c. omega arith) cast-put-digit (λ c κs. search needs)
-    (λ c. omega arith) (λ c. omega arith) loop-again (λ c. refl) (λ c κs. search needs) same-length returns)
+    Inv-loop μ-loop (search needs) loop-holds (λ c. omega arith) cast-put-digit (search needs)
+    (λ c. omega arith) (λ c. omega arith) loop-again (λ c. refl) (search needs) same-length returns)

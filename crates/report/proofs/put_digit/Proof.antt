@@ -10,5 +10,4 @@ returns c = c .before .before .put .ensures
 pub put-digit-spec : {M : Type 1} → statement M
 put-digit-spec =
     tie.close
-    (tie.spec
-    (λ c. search needs) (λ c. search needs) (λ c. search needs) (λ c κs. search needs) (λ c. search needs) returns)
+    (tie.spec (search needs) (search needs) (search needs) (search needs) (search needs) returns)

@@ -9,4 +9,4 @@ unfolding numbered
 returns c = then (c .before .before .before .before .before .before .put .ensures) (c .before .before .put-decimal .ensures)
 
 pub put-number-spec : {M : Type 1} → statement M
-put-number-spec = tie.close (tie.spec (λ c κs. search needs) (λ c κs. search needs) (λ c. search needs) returns)
+put-number-spec = tie.close (tie.spec (search needs) (search needs) (search needs) returns)

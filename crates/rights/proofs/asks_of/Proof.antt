@@ -24,4 +24,4 @@ unfolding asks
 returns-3 c = rw (c .before .right-of .ensures, c .if1 .left)
 
 pub asks-of-spec : {M : Type 1} → statement M
-asks-of-spec = tie.close (tie.spec (λ c κs. search needs) (λ c κs. search needs) returns returns-2 returns-3)
+asks-of-spec = tie.close (tie.spec (search needs) (search needs) returns returns-2 returns-3)

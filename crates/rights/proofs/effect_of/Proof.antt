@@ -23,7 +23,7 @@ unfolding effect
 effect-of-spec =
     tie.close
     (tie.spec
-    (λ c κs. search needs)
+    (search needs)
     (λ c. let zone = c .before .before in
     rw (← zone .before .row-of .ensures, le-leb _ _ (zone .if1 .taken), c .before .if2 .taken, c .if3 .taken))
     (λ c. let zone = c .before .before in

@@ -8,4 +8,4 @@ unfolding isFuse
 returns c = rw (c .row-of .ensures)
 
 pub is-fuse-spec : {M : Type 1} → statement M
-is-fuse-spec = tie.close (tie.spec (λ c κs. search needs) returns)
+is-fuse-spec = tie.close (tie.spec (search needs) returns)

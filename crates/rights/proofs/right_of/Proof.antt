@@ -27,5 +27,5 @@ pub right-of-spec : {M : Type 1} → statement M
 right-of-spec =
     tie.close
     (tie.spec
-    (λ c κs. search needs) (λ c κs. search needs) returns (λ c. search needs) mul-asked (λ c. search needs)
-    index-1-asked (λ c. search needs) (λ c. search needs) (λ c. search needs) (λ c. search needs) returns-2)
+    (search needs) (search needs) returns (search needs) mul-asked (search needs)
+    index-1-asked (search needs) (search needs) (search needs) (search needs) returns-2)

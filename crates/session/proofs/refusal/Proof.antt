@@ -15,4 +15,4 @@ unfolding refusalInSession
 returns-2 c = rw (c .before .opened .given .1)
 
 pub refusal-spec : {M : Type 1} → statement M
-refusal-spec = tie.close (tie.spec (λ c. search needs) enum-told returns returns-2)
+refusal-spec = tie.close (tie.spec (search needs) enum-told returns returns-2)

@@ -56,17 +56,13 @@ assemble-spec =
     tie.close
     (tie.spec
     returns
-    (λ c. search needs)
-    (λ c. search needs)
-    (λ c κs. search needs)
-    (λ c. search needs)
-    (λ c. search needs)
+    (search needs) (search needs) (search needs) (search needs) (search needs)
     add-if2
     returns-2
-    (λ c. search needs)
+    (search needs)
     array-share-prefix-steps
     slice-aggregate-write-2
     write-requires
     returns-3
-    (λ c. search needs)
+    (search needs)
     returns-4)

@@ -43,6 +43,4 @@ returns-2 c =
 pub error-line-spec : {M : Type 1} → statement M
 error-line-spec =
     tie.close
-    (tie.spec
-    (λ c. search needs) (λ c κs. search needs) returns (λ c. search needs) slice-aggregate-put (λ c κs. search needs)
-    (λ c. search needs) returns-2)
+    (tie.spec (search needs) (search needs) returns (search needs) slice-aggregate-put (search needs) (search needs) returns-2)

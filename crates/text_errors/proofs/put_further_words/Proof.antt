@@ -19,14 +19,13 @@ unfolding wordsIn table bytesOf
 put-further-words-spec =
     tie.close
     (tie.spec
-    (λ c. search needs) (λ c κs. search needs) (λ c. search needs) (λ c κs. search needs) (λ c. search needs)
-    (λ c κs. search needs) (λ c. search needs) (λ c κs. search needs) (λ c. search needs) (λ c κs. search needs)
-    (λ c. search needs)
+    (search needs) (search needs) (search needs) (search needs) (search needs) (search needs) (search needs) (search needs)
+    (search needs) (search needs) (search needs)
     (λ c. in-row (drop 6 table) (c .before .before .before .before .before .match .keys1) (c .before .before .put .ensures))
-    (λ c. search needs)
+    (search needs)
     (λ c. in-row (drop 6 table) (c .before .before .before .before .before .match .keys2) (c .before .before .put2 .ensures))
-    (λ c. search needs)
+    (search needs)
     (λ c. in-row (drop 6 table) (c .before .before .before .before .before .match .keys3) (c .before .before .put3 .ensures))
-    (λ c. search needs)
+    (search needs)
     (λ c. in-row (drop 6 table) (c .before .before .before .before .before .match .keys4) (c .before .before .put4 .ensures))
-    (λ c. search needs) others)
+    (search needs) others)

@@ -31,11 +31,4 @@ returns-3 c = rw (known (c .before .before .before)) (search (tests, c .bytes .e
 pub byte-spec : {M : Type 1} → statement M
 byte-spec =
     tie.close
-    (tie.spec
-    (λ c κs. search needs)
-    (λ c. search needs)
-    enum-told
-    returns
-    returns-2
-    (λ c κs. search needs)
-    returns-3)
+    (tie.spec (search needs) (search needs) enum-told returns returns-2 (search needs) returns-3)

@@ -35,4 +35,4 @@ returns-4 c = rw (known (c .before .before .before)) (search tests)
 pub bytes-spec : {M : Type 1} → statement M
 bytes-spec =
     tie.close
-    (tie.spec (λ c κs. search needs) (λ c. search needs) enum-told returns returns-2 returns-3 returns-4)
+    (tie.spec (search needs) (search needs) enum-told returns returns-2 returns-3 returns-4)

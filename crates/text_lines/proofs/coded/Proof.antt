@@ -52,15 +52,4 @@ returns-6 c = rw (known (c .before .before .before)) (search (tests, alike))
 pub coded-spec : {M : Type 1} → statement M
 coded-spec =
     tie.close
-    (tie.spec
-    (λ c κs. search needs)
-    (λ c. search needs)
-    enum-told
-    returns
-    cast-code
-    returns-2
-    returns-3
-    cast-t12
-    returns-4
-    returns-5
-    returns-6)
+    (tie.spec (search needs) (search needs) enum-told returns cast-code returns-2 returns-3 cast-t12 returns-4 returns-5 returns-6)

@@ -45,14 +45,13 @@ pub decimal-spec : {M : Type 1} → statement M
 decimal-spec =
     tie.close
     (tie.spec
-    (λ c κs. search needs)
-    (λ c. search needs)
+    (search needs) (search needs)
     enum-told
     returns
     returns-2
     returns-3
-    (λ c. search needs)
+    (search needs)
     returns-4
     returns-5
-    (λ c. search needs)
+    (search needs)
     returns-6)

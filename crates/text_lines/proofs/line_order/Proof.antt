@@ -8,4 +8,4 @@ unfolding lineOrder
 returns c = rw (c .before .up-to .ensures) at (c .words-order .ensures)
 
 pub line-order-spec : {M : Type 1} → statement M
-line-order-spec = tie.close (tie.spec (λ c κs. search needs) (λ c κs. search needs) returns)
+line-order-spec = tie.close (tie.spec (search needs) (search needs) returns)

@@ -13,4 +13,4 @@ unfolding the
 returns-2 c = rw (by-digits _ _, c .before .if1 .left) (c .coded .ensures)
 
 pub numbered-spec : {M : Type 1} → statement M
-numbered-spec = tie.close (tie.spec (λ c κs. search needs) returns (λ c κs. search needs) returns-2)
+numbered-spec = tie.close (tie.spec (search needs) returns (search needs) returns-2)

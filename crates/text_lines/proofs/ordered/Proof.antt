@@ -50,18 +50,16 @@ ordered-spec =
     (tie.spec
     returns
     returns-2
-    (λ c κs. search needs)
+    (search needs)
     returns-3
     returns-4
-    (λ c κs. search needs)
-    (λ c κs. search needs)
+    (search needs) (search needs)
     returns-5
-    (λ c κs. search needs)
+    (search needs)
     returns-6
     returns-7
-    (λ c κs. search needs)
+    (search needs)
     returns-8
-    (λ c κs. search needs)
-    (λ c κs. search needs)
+    (search needs) (search needs)
     returns-9
     returns-10)

@@ -42,12 +42,9 @@ zone-spec =
     (tie.spec
     returns
     returns-2
-    (λ c κs. search needs)
-    (λ c κs. search needs)
-    (λ c κs. search needs)
-    (λ c κs. search needs)
+    (search needs) (search needs) (search needs) (search needs)
     returns-3
-    (λ c κs. search needs)
+    (search needs)
     returns-4
-    (λ c κs. search needs)
+    (search needs)
     returns-5)

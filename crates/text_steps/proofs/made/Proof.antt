@@ -54,47 +54,28 @@ pub made-spec : {M : Type 1} → statement M
 made-spec =
     tie.close
     (tie.spec
-    (λ c. search needs)
-    (λ c κs. search needs)
-    (λ c. search needs)
-    (λ c κs. search needs)
-    (λ c. search needs)
-    (λ c κs. search needs)
-    (λ c. search needs)
-    (λ c κs. search needs)
+    (search needs) (search needs) (search needs) (search needs) (search needs) (search needs) (search needs) (search needs)
     enum-told
-    (λ c κs. search needs)
-    (λ c. search needs)
-    (λ c κs. search needs)
-    (λ c. search needs)
-    (λ c κs. search needs)
-    (λ c. search needs)
-    (λ c κs. search needs)
-    (λ c. search needs)
-    (λ c κs. search needs)
-    (λ c. search needs)
-    (λ c κs. search needs)
-    (λ c. search needs)
-    (λ c κs. search needs)
-    (λ c. search needs)
+    (search needs) (search needs) (search needs) (search needs) (search needs) (search needs) (search needs) (search needs)
+    (search needs) (search needs) (search needs) (search needs) (search needs) (search needs)
     returns
-    (λ c. search needs)
+    (search needs)
     returns-2
-    (λ c. search needs)
+    (search needs)
     returns-3
-    (λ c. search needs)
+    (search needs)
     returns-4
-    (λ c. search needs)
+    (search needs)
     returns-5
-    (λ c. search needs)
+    (search needs)
     returns-6
-    (λ c. search needs)
+    (search needs)
     returns-7
-    (λ c. search needs)
+    (search needs)
     returns-8
-    (λ c. search needs)
+    (search needs)
     returns-9
-    (λ c. search needs)
+    (search needs)
     returns-10
-    (λ c. search needs)
+    (search needs)
     returns-11)

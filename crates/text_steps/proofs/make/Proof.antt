@@ -16,4 +16,4 @@ unfolding refusalOf made inBuffer
 returns-2 c = rw (← c .before .starts-at .ensures, c .if1 .left) (record { answer = refl; bytes = refl })
 
 pub make-spec : {M : Type 1} → statement M
-make-spec = tie.close (tie.spec (λ c κs. search needs) (λ c κs. search needs) (λ c. search needs) returns returns-2)
+make-spec = tie.close (tie.spec (search needs) (search needs) (search needs) returns returns-2)

@@ -9,4 +9,4 @@ returns c = rw (c .before .before .before .before .before .levels .ensures .0) a
 
 pub set-fus-spec : {M : Type 1} → statement M
 set-fus-spec =
-    tie.close (tie.spec (λ c κs. search needs) (λ c. search needs) (λ c. search needs) (λ c κs. search needs) (λ c. search needs) returns)
+    tie.close (tie.spec (search needs) (search needs) (search needs) (search needs) (search needs) returns)

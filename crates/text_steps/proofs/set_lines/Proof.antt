@@ -8,4 +8,4 @@ unfolding stepsOf
 returns c = c .before .before .raw .ensures
 
 pub set-lines-spec : {M : Type 1} → statement M
-set-lines-spec = tie.close (tie.spec (λ c. search needs) (λ c κs. search needs) (λ c. search needs) returns)
+set-lines-spec = tie.close (tie.spec (search needs) (search needs) (search needs) returns)

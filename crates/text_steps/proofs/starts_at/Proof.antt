@@ -59,17 +59,10 @@ pub starts-at-spec : {M : Type 1} → statement M
 starts-at-spec =
     tie.close
     (tie.spec
-    (λ c. search needs)
+    (search needs)
     enum-told
-    (λ c. search needs)
-    (λ c. search needs)
-    (λ c. search needs)
-    (λ c. search needs)
-    (λ c. search needs)
-    (λ c. search needs)
-    (λ c. search needs)
-    (λ c. search needs)
-    (λ c. search needs)
+    (search needs) (search needs) (search needs) (search needs) (search needs) (search needs) (search needs) (search needs)
+    (search needs)
     returns
     returns-2
     returns-3

@@ -37,14 +37,4 @@ returns-7 c = rw (ne-eqb _ _ (c .before .before .if1 .left), ne-eqb _ _ (c .befo
 pub arrival-spec : {M : Type 1} → statement M
 arrival-spec =
     tie.close
-    (tie.spec
-    (λ c κs. search needs)
-    returns
-    returns-2
-    (λ c κs. search needs)
-    returns-3
-    returns-4
-    (λ c κs. search needs)
-    returns-5
-    returns-6
-    returns-7)
+    (tie.spec (search needs) returns returns-2 (search needs) returns-3 returns-4 (search needs) returns-5 returns-6 returns-7)

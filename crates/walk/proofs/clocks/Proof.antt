@@ -14,4 +14,4 @@ returns-2 c = rw (c .goes-on .ensures, ← c .before .before .before .is-set .en
 pub clocks-spec : {M : Type 1} → statement M
 clocks-spec =
     tie.close
-    (tie.spec (λ c κs. search needs) (λ c κs. search needs) returns (λ c. search needs) (λ c κs. search needs) returns-2)
+    (tie.spec (search needs) (search needs) returns (search needs) (search needs) returns-2)

@@ -27,18 +27,17 @@ returns-2 c =
     let moved = asked .before .before .clocks .ensures in
     let shows = rw moved at (asked .before .shows .ensures) in
     let less : asked .before .shows .result < 2 = omega (arith, shows .small, asked .if1 .left) in
-    rw (c .pin-value .ensures, c .before .read-bit .ensures, moved, ← comes-there (start .args .v) (start .args .n), shows .plain, lt-ltb _ 2 less)
+    rw (
+      c .pin-value .ensures,
+      c .before .read-bit .ensures,
+      moved,
+      ← comes-there (start .args .v) (start .args .n),
+      shows .plain,
+      lt-ltb _ 2 less,
+    )
     (sym (walked (start .pre) shows less))
 
 pub comes-to-spec : {M : Type 1} → statement M
 comes-to-spec =
     tie.close
-    (tie.spec
-    (λ c κs. search needs)
-    (λ c κs. search needs)
-    (λ c κs. search needs)
-    returns
-    (λ c. search needs)
-    (λ c κs. search needs)
-    (λ c κs. search needs)
-    returns-2)
+    (tie.spec (search needs) (search needs) (search needs) returns (search needs) (search needs) (search needs) returns-2)

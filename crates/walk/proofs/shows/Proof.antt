@@ -71,7 +71,8 @@ returns-11 : tie.Need-returns-11
 unfolding all plainAt between
 returns-11 c =
     let a = c .before .before .before .before .before .args .a in
-    not-shown a _ (over-range 1392 128 true refl a (omega arith) (omega arith)) (λ h. high-readable h a (omega arith) ∙ le-ltb a 1392 (omega arith))
+    let past = le-ltb a 1392 (omega arith) in
+    not-shown a _ (over-range 1392 128 true refl a (omega arith) (omega arith)) (λ h. high-readable h a (omega arith) ∙ past)
 
 returns-12 : tie.Need-returns-12
 returns-12 c =
@@ -81,16 +82,4 @@ returns-12 c =
 pub shows-spec : {M : Type 1} → statement M
 shows-spec =
     tie.close
-    (tie.spec
-    returns
-    returns-2
-    returns-3
-    returns-4
-    returns-5
-    returns-6
-    returns-7
-    returns-8
-    returns-9
-    returns-10
-    returns-11
-    returns-12)
+    (tie.spec returns returns-2 returns-3 returns-4 returns-5 returns-6 returns-7 returns-8 returns-9 returns-10 returns-11 returns-12)

@@ -46,16 +46,15 @@ pub step-spec : {M : Type 1} → statement M
 step-spec =
     tie.close
     (tie.spec
-    (λ c κs. search needs)
+    (search needs)
     returns
-    (λ c κs. search needs)
-    (λ c κs. search needs)
+    (search needs) (search needs)
     returns-2
-    (λ c κs. search needs)
+    (search needs)
     returns-3
-    (λ c κs. search needs)
+    (search needs)
     returns-4
-    (λ c κs. search needs)
+    (search needs)
     returns-5
     comes-to-requires
     returns-6)

@@ -8,4 +8,4 @@ unfolding afterWord
 returns c = rw (c .before .beyond .ensures) at (c .beyond2 .ensures)
 
 pub after-word-spec : {M : Type 1} → statement M
-after-word-spec = tie.close (tie.spec (λ c κs. search needs) (λ c κs. search needs) returns)
+after-word-spec = tie.close (tie.spec (search needs) (search needs) returns)

@@ -44,14 +44,4 @@ returns-2 c = omega (arith, at-end (ahead-scans _) (c .before .loop .inv) (c .lo
 pub ahead-spec : {M : Type 1} → statement M
 ahead-spec =
     tie.close
-    (tie.spec
-    Inv-loop
-    μ-loop
-    loop-holds
-    shared-slice-read-stops
-    (λ c κs. search needs)
-    returns
-    add-i
-    loop-less
-    loop-again
-    returns-2)
+    (tie.spec Inv-loop μ-loop loop-holds shared-slice-read-stops (search needs) returns add-i loop-less loop-again returns-2)

@@ -24,4 +24,4 @@ returns c = rest-of (c .before .ahead .result) (now (c .before .before .before .
 
 pub beyond-spec : {M : Type 1} → statement M
 beyond-spec =
-    tie.close (tie.spec (λ c κs. search needs) sub-result part-result-start (λ c. search needs) returns)
+    tie.close (tie.spec (search needs) sub-result part-result-start (search needs) returns)

@@ -35,13 +35,4 @@ returns-7 c = search tests
 pub digit-spec : {M : Type 1} → statement M
 digit-spec =
     tie.close
-    (tie.spec
-    returns
-    returns-2
-    returns-3
-    (λ c. search needs)
-    returns-4
-    returns-5
-    (λ c. search needs)
-    returns-6
-    returns-7)
+    (tie.spec returns returns-2 returns-3 (search needs) returns-4 returns-5 (search needs) returns-6 returns-7)

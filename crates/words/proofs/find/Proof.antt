@@ -42,14 +42,4 @@ returns-2 c = omega (arith, at-end (index-scans _) (c .before .loop .inv) (c .lo
 pub find-spec : {M : Type 1} → statement M
 find-spec =
     tie.close
-    (tie.spec
-    Inv-loop
-    μ-loop
-    loop-holds
-    (λ c. search needs)
-    shared-slice-read-if1
-    returns
-    add-i
-    loop-less
-    loop-again
-    returns-2)
+    (tie.spec Inv-loop μ-loop loop-holds (search needs) shared-slice-read-if1 returns add-i loop-less loop-again returns-2)

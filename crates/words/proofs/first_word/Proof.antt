@@ -8,4 +8,4 @@ unfolding firstWord
 returns c = rw (c .before .beyond .ensures) at (c .up-to .ensures)
 
 pub first-word-spec : {M : Type 1} → statement M
-first-word-spec = tie.close (tie.spec (λ c κs. search needs) (λ c κs. search needs) returns)
+first-word-spec = tie.close (tie.spec (search needs) (search needs) returns)

@@ -18,4 +18,4 @@ returns-3 c = simp (ne-eqb _ _ (c .before .before .if1 .left), c .before .if2 .l
 
 pub numeral-spec : {M : Type 1} → statement M
 numeral-spec =
-    tie.close (tie.spec returns (λ c κs. search needs) returns-2 (λ c κs. search needs) returns-3)
+    tie.close (tie.spec returns (search needs) returns-2 (search needs) returns-3)

@@ -74,7 +74,7 @@ numeral-from-spec =
     μ-loop
     loop-holds
     shared-slice-read-digit
-    (λ c κs. search needs)
+    (search needs)
     cast-d
     returns
     returns-2

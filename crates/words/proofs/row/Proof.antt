@@ -9,4 +9,4 @@ unfolding rowOf names
 returns c = c .find .ensures ∙ rw (c .before .before .pack .ensures) refl
 
 pub row-spec : {M : Type 1} → statement M
-row-spec = tie.close (tie.spec (λ c κs. search needs) (λ c. search needs) (λ c κs. search needs) returns)
+row-spec = tie.close (tie.spec (search needs) (search needs) (search needs) returns)

@@ -26,4 +26,4 @@ returns-4 c = rw (c .enum-told4 .given .1) refl
 pub stops-spec : {M : Type 1} → statement M
 stops-spec =
     tie.close
-    (tie.spec enum-told (λ c. search needs) (λ c. search needs) (λ c. search needs) returns returns-2 returns-3 returns-4)
+    (tie.spec enum-told (search needs) (search needs) (search needs) returns returns-2 returns-3 returns-4)

@@ -20,4 +20,4 @@ unfolding upTo
 returns c = rw (c .before .ahead .ensures) refl
 
 pub up-to-spec : {M : Type 1} → statement M
-up-to-spec = tie.close (tie.spec (λ c κs. search needs) slice-aggregate-result returns)
+up-to-spec = tie.close (tie.spec (search needs) slice-aggregate-result returns)

@@ -16,4 +16,4 @@ returns-3 : tie.Need-returns-3
 returns-3 c = rw (c .before .before .enum-told .given .1) tt
 
 pub say-spec : {M : Type 1} → statement M
-say-spec = tie.close (tie.spec enum-told returns (λ c κs. search needs) returns-2 returns-3)
+say-spec = tie.close (tie.spec enum-told returns (search needs) returns-2 returns-3)

@@ -21,4 +21,4 @@ returns-3 c = rw (c .enum-told3 .given .1)
 pub stop-spec : {M : Type 1} → statement M
 stop-spec =
     tie.close
-    (tie.spec enum-told (λ c κs. search needs) (λ c. search needs) (λ c. search needs) returns returns-2 returns-3)
+    (tie.spec enum-told (search needs) (search needs) (search needs) returns returns-2 returns-3)

@@ -6,5 +6,5 @@ use Rattle.exports.proofs.acts.zhav_program.Tie as tie
 pub zhav-program-spec : {M : Type 1} → statement M
 zhav-program-spec =
     tie.close
-    (tie.spec (λ c κs. search needs) (λ c κs. search needs) (λ c. search needs)
+    (tie.spec (search needs) (search needs) (search needs)
     (λ c. act-told (c .before .before .before .program .ensures) (c .told .ensures)))

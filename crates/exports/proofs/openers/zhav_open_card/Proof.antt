@@ -16,11 +16,4 @@ returns-2 c = card-told (c .before .before .before .before .before .open-card .e
 pub zhav-open-card-spec : {M : Type 1} → statement M
 zhav-open-card-spec =
     tie.close
-    (tie.spec
-    (λ c κs. search needs)
-    (λ c. search needs)
-    (λ c. search needs)
-    (λ c. search needs)
-    returns
-    (λ c. search needs)
-    returns-2)
+    (tie.spec (search needs) (search needs) (search needs) (search needs) returns (search needs) returns-2)

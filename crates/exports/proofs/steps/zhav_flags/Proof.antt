@@ -16,13 +16,4 @@ returns-2 c = rw (← c .before .before .before .flags .ensures, c .before .told
 pub zhav-flags-spec : {M : Type 1} → statement M
 zhav-flags-spec =
     tie.close
-    (tie.spec
-    (λ c κs. search needs)
-    (λ c. search needs)
-    (λ c. search needs)
-    (λ c. search needs)
-    (λ c. search needs)
-    (λ c. search needs)
-    (λ c. search needs)
-    returns
-    returns-2)
+    (tie.spec (search needs) (search needs) (search needs) (search needs) (search needs) (search needs) (search needs) returns returns-2)

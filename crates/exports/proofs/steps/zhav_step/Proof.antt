@@ -17,12 +17,4 @@ returns-2 c = rw (c .of-step .ensures) (c .before .before .before .step-told .en
 pub zhav-step-spec : {M : Type 1} → statement M
 zhav-step-spec =
     tie.close
-    (tie.spec
-    (λ c κs. search needs)
-    (λ c κs. search needs)
-    (λ c. search needs)
-    returns
-    (λ c κs. search needs)
-    (λ c κs. search needs)
-    (λ c. search needs)
-    returns-2)
+    (tie.spec (search needs) (search needs) (search needs) returns (search needs) (search needs) (search needs) returns-2)

@@ -11,7 +11,7 @@ unfolding cardRefusal
 card-refusal-spec =
     tie.close
     (tie.spec
-    (λ c κs. search needs)
+    (search needs)
     (λ c. rw (parts-first, ← c .before .parts-refusal .ensures, ne-eqb _ _ (c .if1 .taken)) refl)
     (λ c. rw (parts-first, ← c .before .before .parts-refusal .ensures, eq-eqb _ _ (c .before .if1 .left), eq-eqb _ _ (c .if2 .taken)) refl)
     (λ c. rw (parts-first, ← c .before .before .parts-refusal .ensures, eq-eqb _ _ (c .before .if1 .left), ne-eqb _ _ (c .if2 .left)) refl))

@@ -19,5 +19,4 @@ returns c =
 pub copy-memory-spec : {M : Type 1} → statement M
 copy-memory-spec =
     tie.close
-    (tie.spec
-    (λ c. search needs) (λ c. search needs) (λ c. search needs) (λ c κs. search needs) (λ c. search needs) returns)
+    (tie.spec (search needs) (search needs) (search needs) (search needs) (search needs) returns)

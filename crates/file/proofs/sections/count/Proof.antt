@@ -29,6 +29,4 @@ returns c =
 pub count-spec : {M : Type 1} → statement M
 count-spec =
     tie.close
-    (tie.spec
-    (λ c. search needs) cast-result (λ c. search needs) (λ c. search needs) cast-result-2 mul-result add-result-2
-    returns)
+    (tie.spec (search needs) cast-result (search needs) (search needs) cast-result-2 mul-result add-result-2 returns)

@@ -48,8 +48,8 @@ parts-refusal-spec =
     (tie.spec
     (λ c. rw (ne-eqb _ _ (c .if1 .taken)) refl)
     (λ c. rw (eq-eqb _ _ (c .before .if1 .left), lt-ltb _ _ (c .if2 .taken)) refl)
-    (λ c κs. search needs) first-count (λ c κs. search needs)
+    (search needs) first-count (search needs)
     (λ c. rw (counted (c .before), ne-eqb _ _ (c .if4 .taken)))
-    (λ c. search needs)
+    (search needs)
     (λ c. rw (counted (c .before .before .before), eq-eqb _ _ (c .before .before .if4 .left), lt-ltb _ _ (c .if5 .taken)))
     none)

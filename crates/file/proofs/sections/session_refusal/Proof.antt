@@ -37,10 +37,10 @@ unfolding sessionRefusal
 session-refusal-spec =
     tie.close
     (tie.spec
-    (λ c κs. search needs)
+    (search needs)
     (λ c. rw (parts-first, ← c .before .parts-refusal .ensures, ne-eqb _ _ (c .if1 .taken)) refl)
     (λ c. rw (parts-first, ← c .before .before .parts-refusal .ensures, eq-eqb _ _ (c .before .if1 .left), lt-ltb _ _ (c .if2 .taken)) refl)
-    (λ c κs. search needs) (λ c. search needs)
+    (search needs) (search needs)
     (λ c. rw (counted (c .before), lt-ltb longest (c .before .count .result) (omega arith)))
     (λ c. rw (counted (c .before .before), le-ltb _ _ (c .before .if3 .left), eq-eqb _ _ (c .if4 .taken)))
     (λ c. rw (counted (c .before .before), le-ltb _ _ (c .before .if3 .left), ne-eqb _ _ (c .if4 .left))))

@@ -13,4 +13,4 @@ unfolding base
 returns-2 c = (rw (c .if1 .left) refl, search needs)
 
 pub base-spec : {M : Type 1} → statement M
-base-spec = tie.close (tie.spec (λ c. search needs) returns returns-2)
+base-spec = tie.close (tie.spec (search needs) returns returns-2)

@@ -9,4 +9,4 @@ returns c = rw (c .before .base .ensures .0, c .io .ensures .0)
 
 pub bit-spec : {M : Type 1} → statement M
 bit-spec =
-    tie.close (tie.spec (λ c κs. search needs) (λ c κs. search needs) (λ c. search needs) (λ c. search needs) returns)
+    tie.close (tie.spec (search needs) (search needs) (search needs) (search needs) returns)

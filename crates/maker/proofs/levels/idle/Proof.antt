@@ -8,4 +8,4 @@ unfolding idle
 returns c = (rw (c .base .ensures .0), search needs)
 
 pub idle-spec : {M : Type 1} → statement M
-idle-spec = tie.close (tie.spec (λ c κs. search needs) (λ c. search needs) returns)
+idle-spec = tie.close (tie.spec (search needs) (search needs) returns)

@@ -8,4 +8,4 @@ unfolding pulse
 returns c = rw (c .idle .ensures .0)
 
 pub pulse-spec : {M : Type 1} → statement M
-pulse-spec = tie.close (tie.spec (λ c κs. search needs) (λ c. search needs) returns)
+pulse-spec = tie.close (tie.spec (search needs) (search needs) returns)

@@ -48,5 +48,5 @@ put-show-spec =
     tie.close
     (tie.spec
     Inv-loop μ-loop loop-holds (λ c. omega arith) (λ c. omega arith) (λ c. omega arith) (λ c. omega arith)
-    (λ c κs. search needs) (λ c. search needs) (λ c κs. search needs) (λ c. omega arith) loop-again
-    (λ c κs. search needs) (λ c. refl) (λ c κs. search needs) same-length returns)
+    (search needs) (search needs) (search needs) (λ c. omega arith) loop-again
+    (search needs) (λ c. refl) (search needs) same-length returns)

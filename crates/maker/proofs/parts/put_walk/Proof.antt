@@ -33,5 +33,5 @@ pub put-walk-spec : {M : Type 1} → statement M
 put-walk-spec =
     tie.close
     (tie.spec
-    Inv-loop μ-loop (λ c κs. search needs) (λ c. start _ _ _) (λ c. search needs) (λ c κs. search needs)
+    Inv-loop μ-loop (search needs) (λ c. start _ _ _) (search needs) (search needs)
     (λ c. omega arith) (λ c. omega arith) loop-again (λ c. same-room (c .before .loop .inv .put)) returns)

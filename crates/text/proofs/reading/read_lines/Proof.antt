@@ -120,13 +120,11 @@ read-lines-spec =
     loop-holds
     sub-rest
     part-rest-start
-    (λ c. search needs)
-    (λ c κs. search needs)
+    (search needs) (search needs)
     slice-aggregate-line-order
-    (λ c κs. search needs)
+    (search needs)
     follow-requires
-    (λ c. search needs)
-    (λ c. search needs)
+    (search needs) (search needs)
     same-length
     same-length-2
     returns

@@ -12,4 +12,4 @@ returns-2 : tie.Need-returns-2
 returns-2 c = λ steps h. after-a-step _ _ _ steps h (c .if1 .left)
 
 pub arrange-spec : {M : Type 1} → statement M
-arrange-spec = tie.close (tie.spec (λ c κs. search needs) (λ c. search needs) returns returns-2)
+arrange-spec = tie.close (tie.spec (search needs) (search needs) returns returns-2)

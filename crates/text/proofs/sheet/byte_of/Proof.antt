@@ -8,4 +8,4 @@ returns-2 : tie.Need-returns-2
 returns-2 c = sym (byte-past (c .before .args .x) (c .before .args .k) (c .before .fits .x .fits) (c .if1 .left))
 
 pub byte-of-spec : {M : Type 1} → statement M
-byte-of-spec = tie.close (tie.spec (λ c. search needs) (λ c. search needs) (λ c. search needs) (λ c. search needs) returns-2)
+byte-of-spec = tie.close (tie.spec (search needs) (search needs) (search needs) (search needs) returns-2)

@@ -39,18 +39,11 @@ pub drive-spec : {M : Type 1} → statement M
 drive-spec =
     tie.close
     (tie.spec
-    (λ c. search needs)
+    (search needs)
     slice-aggregate-present
-    (λ c κs. search needs)
-    (λ c. search needs)
-    (λ c. search needs)
-    (λ c. search needs)
-    (λ c. search needs)
-    (λ c κs. search needs)
-    (λ c. search needs)
+    (search needs) (search needs) (search needs) (search needs) (search needs) (search needs) (search needs)
     add-t19
-    (λ c. search needs)
-    (λ c. search needs)
+    (search needs) (search needs)
     returns
-    (λ c. search needs)
+    (search needs)
     returns-2)

@@ -33,15 +33,10 @@ follow-spec =
     tie.close
     (tie.spec
     enum-told
-    (λ c. search needs)
-    (λ c κs. search needs)
-    (λ c. search needs)
-    (λ c κs. search needs)
-    (λ c. search needs)
+    (search needs) (search needs) (search needs) (search needs) (search needs)
     returns
-    (λ c. search needs)
+    (search needs)
     returns-2
-    (λ c. search needs)
-    (λ c. search needs)
+    (search needs) (search needs)
     returns-3
     returns-4)

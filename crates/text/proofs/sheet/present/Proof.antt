@@ -17,4 +17,4 @@ unfolding present
 returns-2 c = refl
 
 pub present-spec : {M : Type 1} → statement M
-present-spec = tie.close (tie.spec returns (λ c. search needs) (λ c. search needs) returns-2)
+present-spec = tie.close (tie.spec returns (search needs) (search needs) returns-2)

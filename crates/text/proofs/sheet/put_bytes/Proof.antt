@@ -66,7 +66,7 @@ put-bytes-spec =
     same-length
     returns
     sub-left
-    (λ c κs. search needs)
+    (search needs)
     slice-write-image
     add-at
     loop-less

@@ -23,4 +23,4 @@ returns-4 c =
 
 pub arrives-spec : {M : Type 1} → statement M
 arrives-spec =
-    tie.close (tie.spec returns returns-2 returns-3 (λ c κs. search needs) (λ c κs. search needs) returns-4)
+    tie.close (tie.spec returns returns-2 returns-3 (search needs) (search needs) returns-4)

@@ -26,4 +26,4 @@ returns-3 c =
     rw (sym (programming .is-set .ensures) ∙ idle .if2 .left) (sym (c .may-read .ensures)))
 
 pub driven-spec : {M : Type 1} → statement M
-driven-spec = tie.close (tie.spec returns (λ c κs. search needs) returns-2 (λ c κs. search needs) returns-3)
+driven-spec = tie.close (tie.spec returns (search needs) returns-2 (search needs) returns-3)

@@ -11,4 +11,4 @@ unfolding level1 held unpacked unblown fusePlace high place
 returns c = rw (c .before .is-set .ensures, c .is-set2 .ensures)
 
 pub level1-spec : {M : Type 1} → statement M
-level1-spec = tie.close (tie.spec (λ c κs. search needs) (λ c κs. search needs) returns)
+level1-spec = tie.close (tie.spec (search needs) (search needs) returns)

@@ -9,4 +9,4 @@ returns c = sym (plainly-sound (c .before .before .args .self) (sym (c .before .
 
 pub made-up-spec : {M : Type 1} → statement M
 made-up-spec =
-    tie.close (tie.spec (λ c κs. search needs) returns (λ c κs. search needs) (λ c. search needs))
+    tie.close (tie.spec (search needs) returns (search needs) (λ c. search needs))

@@ -49,13 +49,7 @@ pub may-program-spec : {M : Type 1} → statement M
 may-program-spec =
     tie.close
     (tie.spec
-    (λ c κs. search needs)
-    (λ c κs. search needs)
-    (λ c κs. search needs)
+    (search needs) (search needs) (search needs)
     returns
-    (λ c κs. search needs)
-    (λ c κs. search needs)
-    (λ c κs. search needs)
-    (λ c κs. search needs)
-    (λ c κs. search needs)
+    (search needs) (search needs) (search needs) (search needs) (search needs)
     returns-2)

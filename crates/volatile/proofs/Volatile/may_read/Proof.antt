@@ -32,12 +32,4 @@ returns-6 c =
 pub may-read-spec : {M : Type 1} → statement M
 may-read-spec =
     tie.close
-    (tie.spec
-    returns
-    (λ c κs. search needs)
-    (λ c. search needs)
-    returns-3
-    returns-4
-    (λ c κs. search needs)
-    (λ c. search needs)
-    returns-6)
+    (tie.spec returns (search needs) (λ c. search needs) returns-3 returns-4 (search needs) (λ c. search needs) returns-6)

@@ -20,4 +20,4 @@ returns c =
 pub may-read-by-table-spec : {M : Type 1} → statement M
 may-read-by-table-spec =
     tie.close
-    (tie.spec (λ c κs. search needs) (λ c κs. search needs) (λ c κs. search needs) (λ c κs. search needs) returns)
+    (tie.spec (search needs) (search needs) (search needs) (search needs) returns)

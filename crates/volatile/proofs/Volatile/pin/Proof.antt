@@ -22,4 +22,4 @@ returns-2 c =
 pub pin-spec : {M : Type 1} → statement M
 pin-spec =
     tie.close
-    (tie.spec (λ c κs. search needs) returns (λ c. search needs) (λ c κs. search needs) (λ c κs. search needs) returns-2)
+    (tie.spec (search needs) returns (search needs) (search needs) (search needs) returns-2)

@@ -29,4 +29,4 @@ returns-4 c =
 
 pub plainly-sound-spec : {M : Type 1} → statement M
 plainly-sound-spec =
-    tie.close (tie.spec returns returns-2 returns-3 (λ c. search needs) (λ c. search needs) (λ c. search needs) returns-4)
+    tie.close (tie.spec returns returns-2 returns-3 (search needs) (search needs) (search needs) returns-4)

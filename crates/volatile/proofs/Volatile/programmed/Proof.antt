@@ -9,4 +9,4 @@ returns c =
     rw (c .opening .ensures, c .before .is-set .ensures) (programmed-word (args .self) (args .n) (args .l1) (args .ec-en) (args .turned))
 
 pub programmed-spec : {M : Type 1} → statement M
-programmed-spec = tie.close (tie.spec (λ c κs. search needs) (λ c κs. search needs) returns)
+programmed-spec = tie.close (tie.spec (search needs) (search needs) returns)
