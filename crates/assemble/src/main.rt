@@ -20,9 +20,9 @@ fn main() {
         Assembled::Session(count) => {
             out.say(&session[..count]).end(b"assemble");
         }
-        Assembled::Wrong { line, reason } => {
+        Assembled::Wrong { line, refusal } => {
             let mut said = [0u8; 84];
-            let Text::Wrote(length) = text_errors::error_line(line, reason, &mut said) else {
+            let Text::Wrote(length) = text_errors::error_line(line, refusal, &mut said) else {
                 return;
             };
             io::write_all(STDERR_FILENO, &said[..length]);

@@ -29,9 +29,9 @@ fn tell(out: Output, source: &[u8], recorded: &[u8]) -> Output {
                 out.say(b" bytes, not as recorded\n")
             }
         }
-        Assembled::Wrong { line, reason } => {
+        Assembled::Wrong { line, refusal } => {
             let mut said = [0u8; 84];
-            let made = text_errors::error_line(line, reason, &mut said);
+            let made = text_errors::error_line(line, refusal, &mut said);
             show(out, made, &said)
         }
     }

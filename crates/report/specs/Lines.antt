@@ -41,7 +41,7 @@ answersLine answers = map digit answers ++ newline
 
 -- "It prints `bad N` alone"
 unfoldable pub badText : ℕ → List ℕ
-badText number = line badWord number
+badText refusal = line badWord refusal
 
 -- "or four lines: steps done and given, refusal (0 if none), the answers without spaces, ones left in bits 96 to 103." The answers are
 -- the first `done` of those at hand, all of them where there are fewer.

@@ -83,10 +83,10 @@ fn put_answers(out: &mut [u8], at: usize, answers: &[u8], done: usize) -> usize
 }
 
 // `bad N`, a line.
-pub fn bad(number: u8, out: &mut [u8]) -> Text
-    ensures { λ r. ⌜ Made (badText number) (now (out .entry)) r (now (out .exit)) ⌝ }
+pub fn bad(refusal: u8, out: &mut [u8]) -> Text
+    ensures { λ r. ⌜ Made (badText refusal) (now (out .entry)) r (now (out .exit)) ⌝ }
 {
-    let n = number as usize;
+    let n = refusal as usize;
     let total = 5 + places(n);
     if out.len() < total {
         return Text::TooSmall;

@@ -9,7 +9,7 @@ mod sheet;
 // So many bytes of a session, or the first wrong line and its refusal; line 0 where it is no line's.
 pub enum Assembled {
     Session(usize),
-    Wrong { line: usize, reason: u8 },
+    Wrong { line: usize, refusal: u8 },
 }
 
 // The buffer is too small for the session.
@@ -28,7 +28,7 @@ pub fn assemble(text: &[u8], out: &mut [u8]) -> Assembled
     if LONGEST_TEXT < text.len() {
         return Assembled::Wrong {
             line: 0,
-            reason: TOO_LONG,
+            refusal: TOO_LONG,
         };
     }
     let mut image = [ALL_ONES; rules::BYTES];
@@ -37,14 +37,14 @@ pub fn assemble(text: &[u8], out: &mut [u8]) -> Assembled
     match read {
         Read::Amiss { line, refusal } => Assembled::Wrong {
             line,
-            reason: refusal,
+            refusal: refusal,
         },
         Read::Whole(p) => {
             let count = p.count;
             if out.len() < rules::STEPS_AT + count {
                 return Assembled::Wrong {
                     line: 0,
-                    reason: NO_ROOM,
+                    refusal: NO_ROOM,
                 };
             }
             Assembled::Session(session::write(&image, p.fuses, &steps[..count], out))
