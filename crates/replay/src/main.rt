@@ -80,22 +80,23 @@ fn as_recorded(session: &[u8], text: &[u8]) -> bool {
     check::same(&out[0..n], text)
 }
 
+fn compared(session: &[u8], text: &[u8]) -> Outcome {
+    if text.len() == 0 {
+        return Outcome::Broken(Fault::NoText);
+    }
+    if as_recorded(session, text) {
+        return Outcome::Same;
+    }
+    Outcome::Other
+}
+
 // The outcome of a session whose text is the next part.
 fn against(session: &[u8]) -> Outcome {
     let mut text = [0u8; 4202];
     match next_part(&mut text) {
         Part::Over => Outcome::Broken(Fault::Cut),
         Part::Broken(fault) => Outcome::Broken(fault),
-        Part::Bytes(n) => {
-            if n == 0 {
-                return Outcome::Broken(Fault::NoText);
-            }
-            if as_recorded(session, &text[..n]) {
-                Outcome::Same
-            } else {
-                Outcome::Other
-            }
-        }
+        Part::Bytes(n) => compared(session, &text[..n]),
     }
 }
 
@@ -109,23 +110,35 @@ fn next_record() -> Outcome {
     }
 }
 
+fn stopped(out: Output, what: &[u8], which: &[u8]) -> Output {
+    out.stop(b"replay", what, which)
+}
+
+fn stop_in(out: Output, fault: Fault, nth: &[u8]) -> Output {
+    match fault {
+        Fault::Unreadable => stopped(out, b"standard input cannot be read", b""),
+        Fault::Cut => stopped(out, b"the input ends in record ", nth),
+        Fault::TooLong => stopped(out, b"a part is too long in record ", nth),
+        Fault::NoText => stopped(out, b"no text in record ", nth),
+    }
+}
+
 fn stop(out: Output, fault: Fault, nth: usize) -> Output {
     let mut digits = [0u8; 20];
     let k = io::decimal(nth as u64, &mut digits);
-    match fault {
-        Fault::Unreadable => out.stop(b"replay", b"standard input cannot be read", b""),
-        Fault::Cut => out.stop(b"replay", b"the input ends in record ", &digits[..k]),
-        Fault::TooLong => out.stop(b"replay", b"a part is too long in record ", &digits[..k]),
-        Fault::NoText => out.stop(b"replay", b"no text in record ", &digits[..k]),
-    }
+    stop_in(out, fault, &digits[..k])
 }
 
 fn counts(out: Output, same: usize, other: usize) -> Output {
     if (same == 0) & (other == 0) {
-        return out.stop(b"replay", b"no record", b"");
+        return stopped(out, b"no record", b"");
     }
     let out = out.number(same as u64).say(b" sessions as recorded\n");
     out.number(other as u64).say(b" otherwise\n")
+}
+
+fn tell_other(out: Output, nth: usize) -> Output {
+    out.number(nth as u64).say(b" is not as recorded\n")
 }
 
 fn records(out: Output) -> Output {
@@ -139,12 +152,11 @@ fn records(out: Output) -> Output {
             Outcome::Same => same += 1,
             Outcome::Other => {
                 other += 1;
-                out = out.number((same + other) as u64)
-                    .say(b" is not as recorded\n");
+                out = tell_other(out, same + other);
             }
         }
     }
-    out.stop(b"replay", b"more than 10,000 records", b"")
+    stopped(out, b"more than 10,000 records", b"")
 }
 
 fn main() {

@@ -8,17 +8,23 @@ held : (c : tie.After-n) → Held (Bytes (c .n .given .0 .0)) (c .before .before
 held c = rw (c .n .given .1) at (c .before .before .before .next-part .ensures)
 
 array-share-prefix-text : tie.Need-array-share-prefix-text
-array-share-prefix-text c = held (c .before .before) .0
+array-share-prefix-text c = held (c .before) .0
 
-slice-aggregate-as-recorded : tie.Need-slice-aggregate-as-recorded
-slice-aggregate-as-recorded c = held (c .before .before .before) .1
+slice-aggregate-compared : tie.Need-slice-aggregate-compared
+slice-aggregate-compared c = held (c .before .before) .1
 
 pub against-spec : {M : Type 1} → statement M
 against-spec =
     tie.close
     (tie.spec
-    (search needs) (search needs) (search needs) (search needs) (search needs) (search needs)
+    (search needs)
+    (search needs)
+    (search needs)
+    (search needs)
+    (search needs)
     array-share-prefix-text
-    slice-aggregate-as-recorded
-    (search needs) (search needs) (search needs) (search needs)
+    slice-aggregate-compared
+    (search needs)
+    (search needs)
+    (search needs)
     (search needs))

@@ -4,10 +4,10 @@ use Rattle.replay.proofs.records.Statement.{statement}
 use Rattle.replay.proofs.records.Tie as tie
 
 abbrev Inv-loop : tie.InvT-loop
-Inv-loop out₀ same₀ other₀ t6 t7 t8 t9 out same other = same + other ≤ 10001
+Inv-loop out₀ same₀ other₀ t6 t7 out same other = same + other ≤ 10001
 
 abbrev μ-loop : tie.MeasureT-loop
-μ-loop out₀ same₀ other₀ t6 t7 t8 t9 out same other = 10001 - (same + other)
+μ-loop out₀ same₀ other₀ t6 t7 out same other = 10001 - (same + other)
 
 pub records-spec : {M : Type 1} → statement M
 records-spec =
@@ -15,8 +15,28 @@ records-spec =
     (tie.spec
     Inv-loop
     μ-loop
-    (search needs) (search needs) (search needs) (search needs) (search needs) (search needs) (search needs) (search needs)
-    (search needs) (search needs) (search needs) (search needs) (search needs) (search needs) (search needs) (search needs)
-    (search needs) (search needs) (search needs) (search needs) (search needs) (search needs) (search needs) (search needs)
-    (search needs) (search needs) (search needs)
+    (search needs)
+    (search needs)
+    (search needs)
+    (search needs)
+    (search needs)
+    (search needs)
+    (search needs)
+    (search needs)
+    (search needs)
+    (search needs)
+    (search needs)
+    (search needs)
+    (search needs)
+    (search needs)
+    (search needs)
+    (search needs)
+    (search needs)
+    (search needs)
+    (search needs)
+    (search needs)
+    (search needs)
+    (search needs)
+    (search needs)
+    (search needs)
     (search needs))
