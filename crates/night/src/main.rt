@@ -162,10 +162,11 @@ fn visits(out: Output, off: usize) -> Output {
 }
 
 fn main() {
-    let out = console::start(b"night")
-        .say(b"Nine visits, each from power-on to power-off, each with the right code.\n")
-        .say(b"The pin is read at bit 178, a 0 of the application zone: 0 is open, 1 is shut.\n")
-        .say(b"\nA reader that spends a try and never erases:\n");
+    let out = console::start(b"night").say(
+        b"Nine visits, each from power-on to power-off, each with the right code.\n\
+        The pin is read at bit 178, a 0 of the application zone: 0 is open, 1 is shut.\n\n\
+        A reader that spends a try and never erases:\n",
+    );
     let out = visits(out, ERASE).say(b"\nA reader that erases, by the step maker's own open:\n");
     visits(out, 0).end(b"night");
 }
