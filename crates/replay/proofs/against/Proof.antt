@@ -17,14 +17,8 @@ pub against-spec : {M : Type 1} → statement M
 against-spec =
     tie.close
     (tie.spec
-    (search needs)
-    (search needs)
-    (search needs)
-    (search needs)
-    (search needs)
+    (search needs) (search needs) (search needs) (search needs) (search needs)
     array-share-prefix-text
     slice-aggregate-compared
-    (search needs)
-    (search needs)
-    (search needs)
+    (search needs) (search needs) (search needs)
     (search needs))
