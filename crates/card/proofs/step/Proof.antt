@@ -18,4 +18,11 @@ returns-2 c =
     record { card = told .card; answer = rw (told .pin) (pinned-as _ _ (sym (told .refusal) ∙ c .if1 .left)) }
 
 pub step-spec : {M : Type 1} → statement M
-step-spec = tie.close (tie.spec (λ c κs. search needs) (λ c. search needs) returns (λ c. search needs) returns-2)
+step-spec =
+    tie.close
+    (tie.spec
+    (λ c κs. search needs)
+    (λ c. search needs)
+    returns
+    (λ c. search needs)
+    returns-2)

@@ -3,13 +3,16 @@ use borrow.Author.Needs.{needs}
 use Rattle.card.proofs.step_by_run.Statement.{statement}
 use Rattle.card.proofs.step_by_run.Tie as tie
 
+abbrev start : tie.After-told → tie.Start
+start c = c .before .before .before .before
+
 drive-requires : tie.Need-drive-requires
-drive-requires c κs = fits _ (c .before .before .before .before .args .n) (c .before .before .before .before .pre)
+drive-requires c κs = fits _ (start c .args .n) (start c .pre)
 
 returns : tie.Need-returns
 returns c =
     let ran = c .before .before .before .before in
-    step-of-run _ _ (ran .before .before .before .before .before .pre) (ran .drive .ensures)
+    step-of-run _ _ (start (ran .before) .pre) (ran .drive .ensures)
 
 pub step-by-run-spec : {M : Type 1} → statement M
 step-by-run-spec =
