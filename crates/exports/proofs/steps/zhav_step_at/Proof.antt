@@ -11,13 +11,14 @@ use mir.Syntax.{named, w8}
 use mir.Val.{Val, vint, vptr}
 use base.Logic.{SProp, ent, sep, emp, via, fst∗, id⊢}
 use base.Fml.{Lft, Share, GName, ftrue, fat, flft, fobs, fbor}
+use contract.Lifetimes.{Lfts, Shares}
 use prog.Memory.{Memory}
 use prog.Routine.{Routine}
 use prog.Wp.{Heap, Calls, Loops, WpFn, Tables}
-use ghost.Atoms.{Atoms, sem}
+use ghost.Atoms.{Atoms}
 use contract.Monad.{Fun, fact}
 use contract.Running.{givenOf, tables, tablesOf}
-use types.Kit.{Given, Item, ‵, raw, some, later, _⊛_, ⋆, _$_, _∵_, !, qed, by, done, suffices, await}
+use types.Kit.{Given, Item, mean, ‵, raw, some, later, _⊛_, ⋆, _$_, _∵_, !, qed, by, done, suffices, await}
 use types.Kit.{move, keep, drop, frame, use1, use2, split, join, pick, rewrite, fsplit, fsplit3, fjoin, fjoin3, feqL, feqI}
 use types.Run.{look, init, forget, stop, hop, fld, from, load, addr, of-opd, and-then, no-more, assigns, land, returns}
 use types.Run.{enter, alloc1, alloc0, params1, pass1, pass0, free1, free0}
@@ -29,21 +30,21 @@ use denote.Memory.{mem, cellAt}
 use denote.Laws.{Is, shows}
 use denote.Plain.{uint-makes, uint-vals, uint-tells}
 use denote.Builtin.{u8}
-use denote.Ref.{RefT, MutRef, ptr-vals, mut-tells}
+use denote.Ref.{RefT, ptr-vals, mut-tells}
 use denote.Slice.{sliceVal, MutSlice, Room, finally, slice-vals, mut-slice-tells}
 use denote.Steps.{only, opens, closes, owned, peeks, heard, nothing}
 use denote.Struct.Steps.{spelt}
 use denote.Struct.Laws as LL
-use denote.Triple.Entry.{onEntry}
+use denote.Triple.Entry.{Args, Vals, onEntry}
 use denote.Triple.Spec.{Meets, tripleOf}
 use denote.Triple.Statement.{Contract, Triple}
 use denote.Triple.Call.{calls-at}
-use denote.Triple.Clauses.{ensured, lasts}
+use denote.Triple.Clauses.{Lasts, ensured, lasts}
 use denote.Triple.Table.{entered, cited}
 use denote.Triple.Walked.{says, Stays, stay-ref, stay-none, gave-slice}
 use denote.Triple.Walked.{walkOf, goes-ref, goes-none, goes-gave-slice, Walks, ends-at, walked, walk-meets}
 use denote.Exit.{yes}
-use denote.Signature.{plain}
+use denote.Signature.{plain, typesAt}
 use Rattle.volatile.specs.declared.Volatile.{Volatile}
 use Rattle.volatile.specs.Packed.{given}
 use Rattle.volatile.proofs.Volatile as T
@@ -134,51 +135,56 @@ module _ {M : Type 1} (𝓤 : URA M) (H : Heap 𝓤) (A : Atoms 𝓤) (W : Given
   abbrev s : Val
   s = sliceVal (b, o) (length ys)
 
-  abbrev Arg : Type 0
-  Arg = RefT (List ℕ) × (ℕ × (RefT Volatile × (ℕ × Unit {0})))
+  abbrev κs : Lfts lifetimes
+  κs = (κ, (κ′, tt))
 
-  abbrev a : Arg
+  abbrev qs : Shares lifetimes
+  qs = (q, (q′, tt))
+
+  abbrev a : Args step-at.signature κs
   a = (x, (f, (record { ptr = (b′, o′); name = γ′; now = h }, (n, tt))))
 
-  abbrev vals : List Val × (List Val × (List Val × (List Val × Unit {0})))
+  abbrev vals : Vals step-at.signature κs
   vals = (s ∷ [], (vint w8 f ∷ [], (vptr b′ o′ ∷ [], (vint w8 n ∷ [], tt))))
 
   abbrev in-order : List Val
   in-order = s ∷ vint w8 f ∷ vptr b′ o′ ∷ vint w8 n ∷ []
 
   abbrev bound : walkOf 𝓤 H A step-at.ended stayed (step-at.clauses 𝓤 H A at-mem run) .Ghost
-  bound = (((κ, (κ′, tt)), (q, (q′, tt)), tt, a, vals), tt)
+  bound = ((κs, qs, tt, a, vals), tt)
 
   abbrev Post : Val → SProp 𝓤
   Post = walkOf 𝓤 H A step-at.ended stayed (step-at.clauses 𝓤 H A at-mem run) .post bound
 
-  -- what the parameters of `step_lent` last hold: the image
-  abbrev Last : Type 0
-  Last = List ℕ × (Unit {0} × (Unit {0} × (Unit {0} × Unit {0})))
-
-  -- what `zhav_step`'s own step promises of what it hands back, at some last image
-  abbrev Stepped : ZhavStepped → Last → Type 0
-  Stepped r zs = StepTold (given ys f h) n (given (zs .0) (r .fuses) (r .half)) (r .answer) (r .refusal)
-
-  -- the lifetime of what `step_lent` is lent, and its token
-  abbrev on-loan : Lft × Unit {0}
+  -- the lifetime of what `step_lent` is lent, its token and the borrow
+  abbrev on-loan : Lfts (step.signature .lifetimes)
   on-loan = (κ, tt)
 
   abbrev token : Item 𝓤
   token = ‵ (flft κ q) ⊛ ‵ ftrue
 
+  abbrev borrow : Item 𝓤
+  borrow = ‵ (MutSlice (named 0) κ u8 .own x (s ∷ []))
+
   -- what the callee's triple binds outside: the image's borrow as it is, and the half by value
-  abbrev passed : RefT (List ℕ) × (ℕ × (Volatile × (ℕ × Unit {0})))
+  abbrev passed : Args step.signature on-loan
   passed = (x, (f, (h, (n, tt))))
 
   abbrev to-step : Step 𝓤 H A at-mem run .Ghost
   to-step = ((on-loan, (q, tt), tt, passed, (s ∷ [], (vint w8 f ∷ [], (half h ∷ [], (vint w8 n ∷ [], tt))))), tt)
 
+  -- what the parameters of `step_lent` last hold: the image
+  abbrev Last : Type 0
+  Last = Lasts step.ended on-loan passed
+
+  -- what `zhav_step`'s own step promises of what it hands back, at some last image
+  abbrev Stepped : ZhavStepped → Last → Type 0
+  Stepped r zs = StepTold (given ys f h) n (given (zs .0) (r .fuses) (r .half)) (r .answer) (r .refusal)
+
   goes : Is T.the-row h (half h ∷ [])
-      → ent 𝓤 (sep 𝓤 (sep 𝓤 (A .lft κ q) (sem 𝓤 H A ftrue)) (sem 𝓤 H A (MutSlice (named 0) κ u8 .own x (s ∷ []))))
-      (Step 𝓤 H A at-mem run .pre to-step)
+      → ent 𝓤 (sep 𝓤 (mean 𝓤 H A token) (mean 𝓤 H A borrow)) (Step 𝓤 H A at-mem run .pre to-step)
   goes was =
-      qed W (token ∷ ‵ (MutSlice (named 0) κ u8 .own x (s ∷ [])) ∷ []) ∵ nothing ! $
+      qed W (token ∷ borrow ∷ []) ∵ nothing ! $
       owned ! u8 (Is u8) (uint-makes 𝓤 H A W w8) n _ (refl, n-fits) $ fjoin ! $
       owned ! T.the-row (Is T.the-row) ((LL.makes T.the-type T′.the-plain) 𝓤 H A) h _ was $ fjoin ! $
       owned ! u8 (Is u8) (uint-makes 𝓤 H A W w8) f _ (refl, f-fits) $ fjoin ! $
@@ -206,11 +212,10 @@ module _ {M : Type 1} (𝓤 : URA M) (H : Heap 𝓤) (A : Atoms 𝓤) (W : Given
 
   module _ (C : Calls 𝓤 H) (Λ : Loops 𝓤 H) (fm : FmC 𝓤 H (W .laws) C) (known : Triple 𝓤 (C #step) (Step 𝓤 H A at-mem run)) where
     walk : Room u8 (length ys)
-        → ent 𝓤 (onEntry 𝓤 H A step-at.signature (κ, (κ′, tt)) (q, (q′, tt)) a vals)
+        → ent 𝓤 (onEntry 𝓤 H A step-at.signature κs qs a vals)
         (WpFn 𝓤 H C Λ code.function in-order Post)
     walk room =
-        qed W ((‵ (flft κ q) ⊛ ‵ (flft κ′ q′) ⊛ ‵ ftrue) ∷
-        ‵ (owns (MutSlice (named 0) κ u8 ∷ u8 ∷ MutRef (named 1) κ′ T.the-row ∷ u8 ∷ []) a vals) ∷ []) ∵
+        qed W ((‵ (flft κ q) ⊛ ‵ (flft κ′ q′) ⊛ ‵ ftrue) ∷ ‵ (owns (typesAt (step-at.signature .params) κs) a vals) ∷ []) ∵
         enter ! C Λ code.function in-order _ $
         alloc1 ! (λ result. alloc1 ! (λ image. alloc1 ! (λ fuses. alloc1 ! (λ the-half. alloc1 ! (λ levels.
         alloc1 ! (λ handed. alloc1 ! (λ pointer. alloc1 ! (λ slice. alloc1 ! (λ copy. alloc0 ! $ params1 ! $
