@@ -8,7 +8,7 @@ use lib.Seq.{take-at, take-length}
 use Rattle.memory.specs.Image.{digit}
 use Rattle.rules.specs.Halves.{fresh, off}
 use Rattle.rules.specs.Refusals.{longest}
-use Rattle.rules.specs.Card.{answersIn, triesLeft}
+use Rattle.rules.specs.Card.{Ran as Run, answersIn, triesLeft}
 use Rattle.rules.specs.Demands.{freshCard}
 use Rattle.volatile.specs.Packed.{packed, unpacked, word, Given, given, cardOf}
 use Rattle.card.specs.declared.Ran.{Ran}
@@ -32,12 +32,15 @@ module _ (m : List ℕ) (fuses : ℕ) (steps answers : List ℕ) where
   unfolding packed word fresh off
   few-flags = omega arith
 
+  abbrev ran : Run
+  ran = freshRun m fuses steps
+
   -- What the fields of the answer say of the run.
   pub record FromFresh (r : Ran) (after pins : List ℕ) : Type 0 where
-    pub done : r .done ≡ length (freshRun m fuses steps .answers)
-    pub refusal : r .refusal ≡ freshRun m fuses steps .refused
-    pub memory : after ≡ freshRun m fuses steps .card .memory
-    pub shown : take (r .done) pins ≡ freshRun m fuses steps .answers
+    pub done : r .done ≡ length (ran .answers)
+    pub refusal : r .refusal ≡ ran .refused
+    pub memory : after ≡ ran .card .memory
+    pub shown : take (r .done) pins ≡ ran .answers
 
   pub from-fresh :
       {r : Ran} {after pins : List ℕ} → length answers ≡ longest
@@ -50,10 +53,10 @@ module _ (m : List ℕ) (fuses : ℕ) (steps answers : List ℕ) where
         refusal = a .refusal ∙ (run-refused-as-checked start few-flags steps (length answers) ∙ rw (fresh-card, room));
         memory =
             ap (λ (g : Given). g .memory) (a .card ∙ run-leaves-as-checked start few-flags steps (length answers)) ∙ rw (fresh-card, room);
-        shown = rw (a .pins, a .done, told) (take-at (freshRun m fuses steps .answers) _ _ refl);
+        shown = rw (a .pins, a .done, told) (take-at (ran .answers) _ _ refl);
       }
     where
-      told : runAnswers start steps (length answers) ≡ freshRun m fuses steps .answers
+      told : runAnswers start steps (length answers) ≡ ran .answers
       told = run-answers-as-checked start few-flags steps (length answers) ∙ rw (fresh-card, room)
 
   -- The code's four lines are those of the run.
@@ -61,7 +64,7 @@ module _ (m : List ℕ) (fuses : ℕ) (steps answers : List ℕ) where
       {r : Ran} {after pins : List ℕ} (given : ℕ) → FromFresh r after pins →
       fourLines (r .done) given (r .refusal) pins (triesLeft after) ≡ runText m fuses steps given
   unfolding runText reported fourLines
-  text-of given f = rw (f .shown, f .done, f .refusal, f .memory, take-length (freshRun m fuses steps .answers))
+  text-of given f = rw (f .shown, f .done, f .refusal, f .memory, take-length (ran .answers))
 
 -- Four numbers of the machine and the answers of the longest run.
 pub not-long :
