@@ -81,7 +81,7 @@ L1 = true
 abbrev pub L2 : Bool
 L2 = false
 
--- The same, idle.
+-- A card of this image and these fuses, idle at this address.
 unfoldable pub idleAt : Bool → ℕ → List ℕ → ℕ → ℕ → Card
 unfolding cardAt idle
 idleAt fus = cardAt (idle fus)
@@ -97,13 +97,14 @@ unfoldable pub image : List (ℕ × ℕ) → List ℕ
 image [] = []
 image (r ∷ rs) = replicate (r .0) (r .1) ++ image rs
 
--- Ones but for bit 0, a code in bits 80 to 95 and a key in bits 1200 to 1231.
+-- A code and a key.
 abbrev pub code : ℕ
 code = 0xa53c
 
 abbrev pub key : ℕ
 key = 0x5a6996f0
 
+-- Ones but for bit 0, the code in bits 80 to 95 and the key in bits 1200 to 1231.
 unfoldable pub sample : List ℕ
 unfolding ones
 sample = set (set (set (set (set (set (set ones 0 127) 10 0xa5) 11 0x3c) 150 0x5a) 151 0x69) 152 0x96) 153 0xf0

@@ -75,7 +75,7 @@ lineCases =
     -- The right to read is that of the levels after the step.
     oneStep 17 81 SV 49 81 SV zero ∷
     oneStep 49 81 SV 17 81 SV released ∷
-    -- RST rises, FUS rises and falls, PGM rises, and falls with CLK low: nothing more.
+    -- RST rises, FUS rises and falls, PGM rises, and falls, in programming too: nothing more.
     oneStep 17 1240 allSet 19 1240 allSet released ∷
     oneStep 21 1240 (allSet + Latch) 23 1240 (allSet + Latch) released ∷
     oneStep 17 1240 allSet 49 1240 allSet one ∷

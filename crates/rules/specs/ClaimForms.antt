@@ -11,7 +11,7 @@ use Rattle.rules.specs.CaseForms.{none, SV, P1, R1, E1, Match, Latch, Pr
 use Rattle.rules.specs.CaseForms.{cardAt, ones, zeros, image, sameCard}
 use Rattle.rules.specs.Computing.{the-card}
 
--- The levels of an idle card with FUS low; CLK, RST and FUS by their weights.
+-- The levels of an idle card with FUS low; CLK and RST by their weights.
 abbrev pub idle-low : ℕ
 idle-low = 17
 

@@ -116,8 +116,8 @@ blowsAs f a fuses fus sv =
     let there = (not (f .asks-SV) || sv) && (not (f .asks-FUS) || eqb fus 32) in
     leaves false (idle-low + RST + fus) fuses a (cond sv SV (everything a - SV)) (cond there (getD (f .blown) fuses 0) fuses) ones
 
--- Under every fuse byte; and at the ends of its word, with everything there. "write only": an erase does nothing. "RST high": with RST low
--- a write does nothing.
+-- Under every fuse byte; and at the ends and within its word. "write only": an erase does nothing, with everything there. "RST high": with
+-- RST low neither does anything.
 unfoldable pub blown : FuseRow → Bool
 unfolding blowsAs changesNothing leaves everything places eachIn eachOf
 blown f =

@@ -1,7 +1,7 @@
 -- The user's demands as statements about the definitions of a checked step, a checked run and the maker's lists, each proved under its own
 -- name. Of demand 1, that every call gets an answer and an end, and of demand 2 the first sentence are the contracts of step and run
 -- themselves (`StepAnswered`, `RunAnswered` of the crate card), which hold for every input; that they give what the checked step and run
--- give is proved there too (`AsDefined`).
+-- give is proved there too (`AsDefined`), for a half whose word has none but a card's flags. With another flag there, 9.
 use Prim.Native.Nat.{ℕ, zero, suc, _+_, _*_, _<_, _≤_}
 use mathlib.Core.Path.{_≡_}
 use mathlib.Core.Bool.{Bool, true, false, cond, _||_}

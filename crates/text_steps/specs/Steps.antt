@@ -70,7 +70,7 @@ makerRefusal (Open code) attempts = openRefusal attempts
 makerRefusal (Program d) attempts = 0
 makerRefusal Blow attempts = 0
 
--- "From idle": VCC on and I/O 1. `power on` starts where all is low, FUS and raw lines are changed anywhere.
+-- "From idle": VCC on and I/O 1. `power on` starts where all but FUS is low; FUS and raw lines are changed anywhere.
 unfoldable pub startsAt : Act → ℕ → Bool
 startsAt (Power on) levels = eqb (otherLines levels) (cond on 0 idleLines)
 startsAt (Fus high) levels = true

@@ -27,6 +27,8 @@ Walks =
     (half 17 79 0, walk (half 21 79 16) one) ∷
     (half 17 104 0, noWalk (half 17 104 0)) ∷
     (half 17 1519 0, noWalk (half 17 1519 0)) ∷
+    -- A made-up half: a latch with CLK low.
+    (half 17 0 16, noWalk (half 17 0 16)) ∷
     []) ×
     Gives (λ v. walkOf (given sample 5 v) 17)
     ((half 21 0 16, walk (half 17 1 0) one) ∷
@@ -35,7 +37,7 @@ Walks =
     (half 21 500 16, walk (half 17 501 0) released) ∷
     (half 21 500 17, walk (half 17 501 1) one) ∷
     (half 21 1391 0, walk (half 17 1392 0) released) ∷
-    -- Into the code, to 104, 176, 177, 1232 and 1360, past the last; with match, in programming, of a made-up half.
+    -- Into the code, to 104, 176, 177, 1232 and 1360, past the last; with match, in programming.
     (half 21 79 0, noWalk (half 21 79 0)) ∷
     (half 21 103 0, noWalk (half 21 103 0)) ∷
     (half 21 175 0, noWalk (half 21 175 0)) ∷
@@ -45,7 +47,6 @@ Walks =
     (half 21 1519 0, noWalk (half 21 1519 0)) ∷
     (half 21 100 64, noWalk (half 21 100 64)) ∷
     (half 21 0 8, noWalk (half 21 0 8)) ∷
-    (half 17 0 16, noWalk (half 17 0 16)) ∷
     []) ×
     -- CLK with RST high, with PGM high, with VCC off, with a bit that is no line; other lines, no line.
     (walkOf (given sample 5 (half 19 0 0)) 23 ≡ noWalk (half 19 0 0)) ×
