@@ -1,1 +1,2 @@
 pub mod AgainstTable
+pub mod PastLast

@@ -20,7 +20,8 @@ use Rattle.rules.specs.Rights.{Held, level1, granted, rights, mayRead, no}
 use Rattle.rules.specs.Programming.{barred, asks, mayProgram, effect, operation, memoryAfter, turns, opens}
 use Rattle.rules.specs.Demands.{hidden}
 use Rattle.theorems.proofs.Tests.{all, beq-true, and-left, and-right}
-use Rattle.theorems.proofs.ZoneCases.{past-all, hidden-past, everywhere}
+use Rattle.rules.proofs.PastLast.{past-all}
+use Rattle.theorems.proofs.ZoneCases.{hidden-past, everywhere}
 
 is : Zone → Zone → Bool
 is z y = eqb (row z) (row y)

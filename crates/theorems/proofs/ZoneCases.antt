@@ -4,9 +4,7 @@ use mathlib.Core.Path.{_≡_}
 use mathlib.Core.Bool.{Bool, true, false, not, _||_}
 use native.Mathlib.Omega.{arith}
 use native.Mathlib.Decide.{decLe}
-use borrow.Author.Tests.{le-leb, lt-leb, ne-eqb}
-use Rattle.rules.specs.declared.Zone.the-variants.{Gap}
-use Rattle.rules.specs.Zones.{last, between, zone}
+use Rattle.rules.specs.Zones.{last}
 use Rattle.rules.specs.Demands.{hidden}
 use Rattle.theorems.proofs.Tests.{all, below-then}
 use Rattle.theorems.proofs.Between.{over}
@@ -24,28 +22,6 @@ everywhere p q e past a = go (decLe a last)
     go : Dec (a ≤ last) → p a ≡ true → q a ≡ true
     go (yes l) = addressed p q e a l
     go (no l) = past a (omega arith)
-
--- Past the last address there is no zone.
-pub past-all : (a : ℕ) → 1519 < a → Gap ≡ zone a
-unfolding zone between
-past-all a h =
-    rw (
-      lt-leb a 15 (omega arith),
-      lt-leb a 79 (omega arith),
-      lt-leb a 95 (omega arith),
-      lt-leb a 111 (omega arith),
-      lt-leb a 175 (omega arith),
-      lt-leb a 1199 (omega arith),
-      lt-leb a 1231 (omega arith),
-      lt-leb a 1359 (omega arith),
-      lt-leb a 1375 (omega arith),
-      lt-leb a 1391 (omega arith),
-      lt-leb a 1407 (omega arith),
-      lt-leb a 1423 (omega arith),
-      ne-eqb a 1481 (omega arith),
-      le-leb 1504 a (omega arith),
-      lt-leb a 1519 h,
-    )
 
 -- Past EZ nothing is hidden.
 pub hidden-past : (a : ℕ) → 1231 < a → hidden a ≡ false
