@@ -15,8 +15,8 @@ const LATCH: u32 = 16;
 
 const MATCH: u32 = 64;
 
-fn wide(x: u8) -> u32 {
-    x as u32
+fn wide(x: u8) -> u64 {
+    x as u64
 }
 
 fn at(levels: u32, address: u32, flags: u32) -> Volatile {
@@ -27,21 +27,30 @@ fn at(levels: u32, address: u32, flags: u32) -> Volatile {
     }
 }
 
-// The steps of a card at v: none is refused, and this is the volatile half after them.
-fn run(t: Table, memory: &mut [u8], v: Volatile, steps: &[u8], after: Volatile) -> Table {
+// The steps of a card at v, whose bytes are all alike: none is refused, and this is the volatile half after them, and byte i.
+fn run(
+    t: Table,
+    fill: u8,
+    v: Volatile,
+    steps: &[u8],
+    after: Volatile,
+    i: usize,
+    byte: u64,
+) -> Table {
+    let mut memory = [fill; 174];
     let mut answers = [0u8; 8];
-    let ran = card::run(memory, 7, v, steps, &mut answers);
+    let ran = card::run(&mut memory, 7, v, steps, &mut answers);
     let half = ran.volatile;
-    let t = t.from(v);
-    let t = t.numbers(0, ran.refusal as u32);
-    t.half(after, half)
+    let t = t.from(v).numbers(0, ran.refusal as u64).half(after, half);
+    if i < 174 {
+        return t.row(b"  byte ", i as u64, byte, wide(memory[i]));
+    }
+    t
 }
 
 // A memory of ones, which the steps leave as it is.
 fn kept(t: Table, v: Volatile, steps: &[u8], after: Volatile) -> Table {
-    let mut memory = [255u8; 174];
-    let t = run(t, &mut memory, v, steps, after);
-    t.row(b"  byte ", 12, 255, wide(memory[12]))
+    run(t, 255, v, steps, after, 12, 255)
 }
 
 fn clock(t: Table) -> Table {
@@ -65,16 +74,11 @@ fn power_lost(t: Table) -> Table {
     kept(t, at(5, 96, MATCH + PROGRAMMING), &[4], at(4, 0, 0))
 }
 
-// A write or an erase of a memory whose bytes are all alike: byte i after it. The volatile half stays.
-fn program(t: Table, erases: bool, v: Volatile, fill: u8, i: u32, byte: u32) -> Table {
-    let mut memory = [fill; 174];
+// A write or an erase. The volatile half stays.
+fn program(t: Table, erases: bool, v: Volatile, fill: u8, i: usize, byte: u64) -> Table {
     let mut steps = [0u8; 6];
     maker::program(is_set(v.lines, volatile::FUS), erases, &mut steps);
-    let t = run(t, &mut memory, v, &steps, v);
-    if i < 174 {
-        return t.row(b"  byte ", i, byte, wide(memory[i as usize]));
-    }
-    t
+    run(t, fill, v, &steps, v, i, byte)
 }
 
 fn without_sv(t: Table) -> Table {

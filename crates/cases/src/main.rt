@@ -1,10 +1,12 @@
 // The cases that a program runs beside the proved table: case, expected, got.
 mod buffers;
 mod effects;
+mod lines;
+mod names;
 mod numbers;
 mod states;
+mod steps;
 mod table;
-mod words;
 
 use table::Table;
 
