@@ -42,10 +42,7 @@ fn run(
     let ran = card::run(&mut memory, 7, v, steps, &mut answers);
     let half = ran.volatile;
     let t = t.from(v).numbers(0, ran.refusal as u64).half(after, half);
-    if i < 174 {
-        return t.row(b"  byte ", i as u64, byte, wide(memory[i]));
-    }
-    t
+    t.row(b"  byte ", i as u64, byte, wide(memory[i % 174]))
 }
 
 // A memory of ones, which the steps leave as it is.

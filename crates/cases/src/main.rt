@@ -4,7 +4,6 @@ mod effects;
 mod lines;
 mod names;
 mod numbers;
-mod states;
 mod steps;
 mod table;
 
@@ -14,7 +13,6 @@ fn main() {
     let t = Table::new(console::start(b"cases"));
     let t = t.head(b"Each step from -> to: 0 is accepted, else the number of the refusal.");
     let t = numbers::rows(t);
-    let t = states::rows(t);
     let t = buffers::rows(t);
     let t = effects::rows(t);
     t.total().end(b"cases");
