@@ -1,5 +1,5 @@
 -- What the public calls answer, from what the steps inside have come to.
-use Prim.Native.Nat.{ℕ, _<_}
+use Prim.Native.Nat.{ℕ}
 use mathlib.Core.Path.{_≡_, refl, sym, _∙_}
 use mathlib.Core.Bool.{Bool, true, false, cond}
 use mathlib.Core.List.{List, [], _∷_}
@@ -12,12 +12,9 @@ use Rattle.rules.specs.Halves.{Card}
 use Rattle.rules.specs.Refusals.{refusal}
 use Rattle.rules.specs.Steps.{next, pin}
 use Rattle.rules.specs.Card.{refusalIn, pinIn, added, ended, run, stepped, answered, answersIn}
-use Rattle.volatile.specs.Packed.{unpacked, Given, cardOf, withHalf}
+use Rattle.volatile.specs.Packed.{unpacked, Given, cardOf}
 use Rattle.refusals.specs.Before.{givenRefusal, givenRunRefusal}
-use Rattle.edge_laws.specs.Inner.{Steps}
-use Rattle.walk.specs.declared.Walked.{Walked}
-use Rattle.walk.specs.Contracts.{walkOf}
-use Rattle.walk.proofs.AtOnce.{walk-steps}
+use Rattle.volatile.specs.Inner.{Steps}
 use Rattle.card.specs.Contracts.{stepLeaves, stepAnswer, StepTold, runLeaves, runAnswers, runRefused, RunAnswered}
 
 pub run-barred :
@@ -52,11 +49,6 @@ module _ (g : Given) (n : ℕ) where
       let none = sym (did .refused) in
       let to = did .accepted refl in
       record { card = rw (z, none) (to .0); pin = rw (z, none) (to .1); refusal = rw (z, none) }
-
-  -- A walk's half and pin are the step's.
-  pub walk-told :
-      {w : Walked} → n < 256 → w ≡ walkOf g n → (w .pin ≡ 255 → ⊥) → StepTold g n (withHalf g (w .volatile)) (w .pin) 0
-  walk-told byte is other = let did = walk-steps g n byte is other in step-done (did .0) (did .1)
 
   -- One step is a run of one.
   abbrev c : Card

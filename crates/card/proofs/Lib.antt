@@ -1,6 +1,7 @@
 pub mod AgainstCases
 pub mod Ones
 pub mod HandedOn
+pub mod Walks
 pub mod Loop
 pub mod Answers
 pub mod WithoutLoop

@@ -21,9 +21,9 @@ use Rattle.theorems.proofs.Soundness.{SoundCard, let-pass, passes, unmade, soun
 use Rattle.volatile.specs.Packed.{packed, unpacked, Given, given, cardOf, handedBack, madeUpWord}
 use Rattle.volatile.proofs.Packing.{unpacked-packed, packed-unpacked, packed-small}
 use Rattle.refusals.specs.Before.{givenRefusal, givenRunRefusal}
-use Rattle.edge_laws.specs.Inner.{Ready, Steps}
+use Rattle.volatile.specs.Inner.{Ready, Steps}
 use Rattle.card.specs.Contracts.{runLeaves, runAnswers, runRefused, RunAnswered}
-use Rattle.walk.proofs.Passed.{ready-at}
+use Rattle.refusals.proofs.Laws.{ready-at}
 use Rattle.edge_laws.proofs.ByLine.{flags-small, sound-half}
 
 -- A card that a step hands on stands for the card that the definitions give.

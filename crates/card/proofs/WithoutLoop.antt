@@ -13,13 +13,13 @@ use Rattle.volatile.specs.declared.Volatile.{Volatile}
 use Rattle.volatile.specs.Packed.{packed, unpacked, Given, cardOf, withHalf}
 use Rattle.refusals.specs.Before.{givenRefusal}
 use Rattle.card.specs.declared.quick.Quick.the-variants.{To}
-use Rattle.edge_laws.specs.Inner.{Ready}
+use Rattle.volatile.specs.Inner.{Ready}
 use Rattle.card.specs.Moves.{QuickTo}
 use Rattle.card.specs.Contracts.{StepTold}
 use Rattle.edge_laws.proofs.Turned.{Turned}
 use Rattle.edge_laws.proofs.LineMasks.{vcc-clk, high-low}
 use Rattle.edge_laws.proofs.ByLine.{pinAt, Goes, turned, idle, reads, pgm-goes, fus-goes, rst-follows, rst-falls}
-use Rattle.walk.proofs.Passed.{ready-at}
+use Rattle.refusals.proofs.Laws.{ready-at}
 use Rattle.card.proofs.Answers.{step-done}
 
 module _ (v : Volatile) (n : ℕ) where

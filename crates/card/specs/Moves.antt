@@ -6,7 +6,7 @@ use Rattle.rules.specs.Halves.{Card}
 use Rattle.rules.specs.Steps.{driven, pinValue, pin}
 use Rattle.volatile.specs.declared.Volatile.{Volatile}
 use Rattle.volatile.specs.Packed.{packed, unpacked, Given, given, withHalf}
-use Rattle.edge_laws.specs.Inner.{Ready, Steps}
+use Rattle.volatile.specs.Inner.{Ready, Steps}
 use Rattle.card.specs.declared.moved.Moved.{Moved}
 use Rattle.card.specs.declared.moved.Left.{Left}
 use Rattle.card.specs.declared.quick.Quick.{Quick}

@@ -12,7 +12,7 @@ ghost use Rattle.memory.specs.Image.{digit};
 ghost use Rattle.rules.specs.Match.{following};
 ghost use Rattle.rules.specs.Steps.{clocked};
 ghost use Rattle.volatile.specs.Packed.{given, cardOf};
-ghost use Rattle.edge_laws.specs.Inner.{Ready};
+ghost use Rattle.volatile.specs.Inner.{Ready};
 ghost use Rattle.card.specs.Moves.{Moves, movedTo};
 
 // The address goes up by one, 1519 going to 0.
@@ -47,12 +47,12 @@ pub(crate) fn clock_falls(v: Volatile, image: &[u8], fuses: u8, pin: u8, n: u32)
 {
     let a = v.address + 1;
     if n & masks::VCC_RST_PGM == 1 {
-        let shown = walk::shows(a, v.flags);
-        if shown != walk::APART {
+        let shows = shown::shows(a, v.flags);
+        if shows != shown::APART {
             let bit = memory::read_bit(image, a as usize);
             return moved::known(
                 v.goes_on(n, a),
-                volatile::pin_value(shown == walk::BIT, bit),
+                volatile::pin_value(shows == shown::BIT, bit),
             );
         }
     }

@@ -9,7 +9,7 @@ ghost use lib.Bits.{bitXor};
 ghost use Rattle.memory.specs.Image.{digit};
 ghost use Rattle.rules.specs.Halves.{off};
 ghost use Rattle.volatile.specs.Packed.{packed, given};
-ghost use Rattle.edge_laws.specs.Inner.{Ready};
+ghost use Rattle.volatile.specs.Inner.{Ready};
 ghost use Rattle.card.specs.Moves.{Leaves, leftBy, moved};
 
 // CLK falls.

@@ -6,7 +6,7 @@ use crate::moved::Left;
 use memory::is_set;
 use volatile::Volatile;
 ghost use Rattle.volatile.specs.Packed.{given};
-ghost use Rattle.edge_laws.specs.Inner.{Ready};
+ghost use Rattle.volatile.specs.Inner.{Ready};
 ghost use Rattle.card.specs.Moves.{Leaves};
 
 // While programming is under way image and fuses may change, else they stay.

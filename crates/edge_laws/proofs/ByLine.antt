@@ -21,7 +21,7 @@ use Rattle.theorems.proofs.Soundness.{Sound, sound}
 use Rattle.volatile.specs.declared.Volatile.{Volatile}
 use Rattle.volatile.specs.Packed.{packed, unpacked, Given, cardOf, handedBack, withHalf, programmedCard, madeUpWord}
 use Rattle.volatile.proofs.Packing.{unpacked-packed, packed-unpacked}
-use Rattle.edge_laws.specs.Inner.{Ready, Steps}
+use Rattle.volatile.specs.Inner.{Ready, Steps}
 use Rattle.edge_laws.proofs.Turned.{by-difference, edge-by-difference, small-step, Turned, turned-by}
 use Rattle.edge_laws.proofs.LineMasks.{vcc-clk-pgm, vcc-rst, clk-pgm, high-low}
 use Rattle.edge_laws.proofs.EdgeRefusals.{same-refusal, clk-refusal, pgm-refusal, rst-refusal, fus-refusal, io-refusal, vcc-refusal}

@@ -1,3 +1,4 @@
 pub mod AgainstCases
 mod Determined
 mod Shown
+mod Walked

@@ -4,6 +4,7 @@ use console::Input;
 use console::Output;
 use report::Text;
 use text::Assembled;
+use words::Stop;
 ghost use Rattle.console.specs.Ends.{Taken};
 
 fn read(path: &[u8], into: &mut [u8]) -> Input
@@ -48,16 +49,18 @@ fn show(out: Output, made: Text, text: &[u8]) -> Output {
     out
 }
 
-// With what the session program prints of it.
-fn taught(out: Output, source: &[u8], recorded: &[u8]) -> Output {
-    let out = tell(out.say(b": "), source, recorded);
+// What the text's first line says that it shows, and what the session program prints of it.
+fn taught(out: Output, name: &[u8], source: &[u8], recorded: &[u8]) -> Output {
+    let shows = words::up_to(Stop::LineEnd, source);
+    let out = out.say(shows).say(b"\n").say(name).say(b": ");
+    let out = tell(out, source, recorded);
     let mut text = [0u8; 4202];
     let made = fresh_run::session_text(recorded, &mut text);
     show(out, made, &text).say(b"\n")
 }
 
 // Each buffer has a byte more than the longest text, or session, so that no longer file is taken for its beginning.
-fn lesson(out: Output, text: &[u8], session: &[u8], shows: &[u8]) -> Output {
+fn lesson(out: Output, text: &[u8], session: &[u8]) -> Output {
     let mut source = [0u8; 65537];
     let Input::Bytes(n) = read(text, &mut source) else {
         return out.stop(b"lessons", b"cannot read ", text);
@@ -66,86 +69,42 @@ fn lesson(out: Output, text: &[u8], session: &[u8], shows: &[u8]) -> Output {
     let Input::Bytes(m) = read(session, &mut recorded) else {
         return out.stop(b"lessons", b"cannot read ", session);
     };
-    taught(
-        out.say(shows).say(b"\n").say(text),
-        &source[..n],
-        &recorded[..m],
-    )
+    taught(out, text, &source[..n], &recorded[..m])
 }
 
 fn lines_and_code(out: Output) -> Output {
-    let out = lesson(
-        out,
-        b"case_s.txt",
-        b"case_s.session",
-        b"case S, up to a step in which two lines change",
-    );
-    let out = lesson(
-        out,
-        b"right_open.txt",
-        b"right_open.session",
-        b"the right code opens, and the tries come back",
-    );
-    lesson(
-        out,
-        b"wrong_open.txt",
-        b"wrong_open.session",
-        b"a wrong code spends a try, and the card stays shut",
-    )
+    let out = lesson(out, b"case_s.txt", b"case_s.session");
+    let out = lesson(out, b"right_open.txt", b"right_open.session");
+    lesson(out, b"wrong_open.txt", b"wrong_open.session")
 }
 
 fn issuing_and_key(out: Output) -> Output {
-    let out = lesson(
-        out,
-        b"issue.txt",
-        b"issue.session",
-        b"the block erase, and then the ISS fuse blown",
-    );
-    let out = lesson(
-        out,
-        b"recharge.txt",
-        b"recharge.session",
-        b"the application zone erased under the key, with a bit of EC",
-    );
-    lesson(
-        out,
-        b"recharge_free.txt",
-        b"recharge_free.session",
-        b"the same with EC_EN blown: no bit of EC is used",
-    )
+    let out = lesson(out, b"issue.txt", b"issue.session");
+    let out = lesson(out, b"recharge.txt", b"recharge.session");
+    lesson(out, b"recharge_free.txt", b"recharge_free.session")
 }
 
 fn flags_and_faults(out: Output) -> Output {
-    let out = lesson(
-        out,
-        b"r1_p1.txt",
-        b"r1_p1.session",
-        b"R1 lets the zone be read without a code, P1 written with one",
-    );
-    let out = lesson(
-        out,
-        b"refused.txt",
-        b"refused.session",
-        b"a waveform refused: PGM rises with CLK high",
-    );
-    lesson(
-        out,
-        b"cut.txt",
-        b"cut.session",
-        b"VCC falls in programming: the try is still there",
-    )
+    let out = lesson(out, b"r1_p1.txt", b"r1_p1.session");
+    let out = lesson(out, b"refused.txt", b"refused.session");
+    lesson(out, b"cut.txt", b"cut.session")
+}
+
+// A text that is wrong has no session.
+fn wrong(out: Output, source: &[u8]) -> Output {
+    tell(out, source, b"")
 }
 
 fn wrong_texts(out: Output) -> Output {
-    let out = tell(out, b"power on\nrun\n", b"");
-    let out = tell(out, b"power on\nwalk\n", b"");
-    let out = tell(out, b"zone SC A5C3F0\n", b"");
-    let out = tell(out, b"power on\n\nzone SC A5C3 # late\n", b"");
-    let out = tell(out, b"reset\n", b"");
-    let out = tell(out, b"power on\nwalk 1520\n", b"");
-    let out = tell(out, b"power on\r\nwalk 1519\r\nwalk 528\r\nreset\r\n", b"");
-    let out = tell(out, b"zone SCAC 00FF\npower on\nopen A5C3\n", b"");
-    tell(out, &[10u8; 65537], b"")
+    let out = wrong(out, b"power on\nrun\n");
+    let out = wrong(out, b"power on\nwalk\n");
+    let out = wrong(out, b"zone SC A5C3F0\n");
+    let out = wrong(out, b"power on\n\nzone SC A5C3 # late\n");
+    let out = wrong(out, b"reset\n");
+    let out = wrong(out, b"power on\nwalk 1520\n");
+    let out = wrong(out, b"power on\r\nwalk 1519\r\nwalk 528\r\nreset\r\n");
+    let out = wrong(out, b"zone SCAC 00FF\npower on\nopen A5C3\n");
+    wrong(out, &[10u8; 65537])
 }
 
 fn main() {

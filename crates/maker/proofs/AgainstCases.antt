@@ -1,10 +1,9 @@
 -- 01's cases of the step maker, computed from the definitions. Assumes nothing.
 use mathlib.Core.Path.{refl}
 use Rattle.memory.specs.Image.{digit}
-use Rattle.rules.specs.Maker.{reset, walk, show, program, blow, open-card, walkRefusal, openRefusal}
+use Rattle.rules.specs.Maker.{reset, walk, program, blow, open-card, walkRefusal, openRefusal}
 use Rattle.maker.specs.Act.{refusalIn, countOf, made, inBuffer}
-use Rattle.maker.specs.Parts.{pulse, shownBit}
-use Rattle.maker.specs.Cases.{Acts-make, Answers-told, Parts-made}
+use Rattle.maker.specs.Cases.{Acts-make, Answers-told}
 
 pub acts-make : Acts-make
 unfolding digit reset walk program blow open-card walkRefusal openRefusal made inBuffer
@@ -27,7 +26,3 @@ acts-make = (
 pub answers-told : Answers-told
 unfolding refusalIn countOf
 answers-told = (refl, refl, refl, refl, refl)
-
-pub parts-made : Parts-made
-unfolding digit reset walk show program pulse shownBit
-parts-made = (refl, refl, refl, refl, refl, refl, refl, refl)

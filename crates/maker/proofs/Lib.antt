@@ -1,5 +1,5 @@
 pub mod AgainstCases
 mod Acting
-mod Lists
+mod Opening
 mod Zeros
 mod Determined

@@ -1,3 +1,2 @@
 pub mod Act
-pub mod Parts
 pub mod Cases

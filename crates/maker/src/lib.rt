@@ -1,4 +1,5 @@
 // The step maker: the reader's acts as steps in a lent buffer, "From idle .. back to idle, FUS kept".
+use act_parts::levels;
 ghost use Prim.Native.Nat.{_+_, _*_, _≤_};
 ghost use mathlib.Core.Path.{_≡_};
 ghost use mathlib.Core.Bool.{cond};
@@ -6,10 +7,6 @@ ghost use lib.Dec.{eqb, ltb};
 ghost use Rattle.rules.specs.Maker.{reset as resetSteps, walk as walkSteps, show, program as programSteps, blow as blowSteps, open-card};
 ghost use Rattle.rules.specs.Maker.{walkRefusal, openRefusal};
 ghost use Rattle.maker.specs.Act.{Acted};
-use levels::RST;
-
-mod levels;
-mod parts;
 
 // The highest address, as a length.
 const LAST: usize = rules::LAST as usize;
@@ -33,7 +30,7 @@ pub fn raw(steps: &[u8], out: &mut [u8]) -> Made
 pub fn reset(fus: bool, out: &mut [u8]) -> Made
     ensures { λ r. ⌜ Acted 0 (resetSteps fus) (now (out .entry)) r (now (out .exit)) ⌝ }
 {
-    let steps = levels::pulse(RST, fus);
+    let steps = levels::reset(fus);
     raw(&steps, out)
 }
 
@@ -46,17 +43,17 @@ pub fn walk(fus: bool, n: usize, out: &mut [u8]) -> Made
     if out.len() < 2 * n {
         return Made::Refused(22);
     }
-    Made::Wrote(parts::put_walk(fus, n, out, 0))
+    Made::Wrote(act_parts::put_walk(fus, n, out, 0))
 }
 
-fn show_bits(fus: bool, width: usize, x: u32, out: &mut [u8]) -> Made
+fn show_bits(fus: bool, width: u32, x: u32, out: &mut [u8]) -> Made
     requires { ⌜ width ≤ 32 ⌝ }
     ensures { λ r. ⌜ Acted 0 (show fus width x) (now (out .entry)) r (now (out .exit)) ⌝ }
 {
-    if out.len() < 3 * width + 1 {
+    if out.len() < 3 * width as usize + 1 {
         return Made::Refused(22);
     }
-    Made::Wrote(parts::put_show(fus, width, x, out, 0))
+    Made::Wrote(act_parts::put_show(fus, width, x, out, 0))
 }
 
 pub fn show16(fus: bool, code: u16, out: &mut [u8]) -> Made
@@ -74,7 +71,7 @@ pub fn show32(fus: bool, key: u32, out: &mut [u8]) -> Made
 pub fn program(fus: bool, d: bool, out: &mut [u8]) -> Made
     ensures { λ r. ⌜ Acted 0 (programSteps fus d) (now (out .entry)) r (now (out .exit)) ⌝ }
 {
-    let steps = levels::program(0, fus, d);
+    let steps = levels::program(fus, d);
     raw(&steps, out)
 }
 
@@ -105,6 +102,6 @@ pub fn open(fus: bool, code: u16, attempts: u8, out: &mut [u8]) -> Made
     if refused != 0 {
         return Made::Refused(refused);
     }
-    let shown = parts::put_code(fus, code, out);
-    Made::Wrote(parts::put_try(fus, k, out, shown))
+    let shown = act_parts::put_code(fus, code, out);
+    Made::Wrote(act_parts::put_try(fus, k, out, shown))
 }

@@ -1,2 +1,3 @@
 pub mod Packed
+pub mod Inner
 pub mod Cases

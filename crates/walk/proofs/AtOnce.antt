@@ -20,16 +20,16 @@ use Rattle.volatile.specs.Packed.{packed, unpacked, Given, cardOf, withHalf, wi
 use Rattle.volatile.proofs.Packing.{unpacked-packed}
 use Rattle.volatile.proofs.Sums.{ready}
 use Rattle.refusals.specs.Before.{givenRefusal}
-use Rattle.refusals.proofs.Laws.{none-refused}
+use Rattle.refusals.proofs.Laws.{none-refused, ready-at}
+use Rattle.shown.specs.Shown.{plainAt, Shows}
 use Rattle.walk.specs.declared.Walked.{Walked}
-use Rattle.edge_laws.specs.Inner.{Ready, Steps}
-use Rattle.walk.specs.Contracts.{calm, plainAt, walkedTo, walks, walkTo, noWalk, walkOf}
-use Rattle.walk.specs.Inside.{Shows, walkedHalf, Calm}
+use Rattle.volatile.specs.Inner.{Ready, Steps}
+use Rattle.walk.specs.Contracts.{calm, walkedTo, walks, walkTo, noWalk, walkOf}
+use Rattle.walk.specs.Inside.{walkedHalf, Calm}
 use Rattle.rules.specs.Lines.{change}
 use Rattle.edge_laws.proofs.Turned.{Turned, small-step, by-difference, turned-by}
 use Rattle.edge_laws.proofs.ByLine.{Goes, goes-to, clk-rises, clk-walks}
-use Rattle.walk.proofs.Walks.{plain-clocked}
-use Rattle.walk.proofs.Passed.{ready-at}
+use Rattle.shown.proofs.Plain.{plain-clocked}
 
 -- The address of the half after a walk.
 pub comes-there : (v : Volatile) (n : ℕ) → walkedHalf v n .address ≡ walkedTo (v .address) n

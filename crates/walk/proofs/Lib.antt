@@ -1,4 +1,2 @@
 pub mod AgainstCases
-pub mod Passed
-pub mod Walks
 pub mod AtOnce

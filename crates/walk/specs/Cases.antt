@@ -4,7 +4,6 @@
 -- SV 1, P1 2, R1 4, programming 8, latch 16, E1 32, match 64; no card has 128. Of `sample` bit 0 is 0, bits 1, 96 and 1240 are 1.
 use Prim.Native.Nat.{ℕ}
 use mathlib.Core.Path.{_≡_}
-use mathlib.Core.Bool.{true, false}
 use mathlib.Core.List.{[], _∷_}
 use lib.ListN.{take}
 use Rattle.rules.specs.CaseForms.{zero, one, released, sample}
@@ -12,7 +11,7 @@ use Rattle.volatile.specs.declared.Volatile.{Volatile}
 use Rattle.volatile.specs.Packed.{given}
 use Rattle.volatile.specs.Cases.{Gives, half}
 use Rattle.walk.specs.declared.Walked.{Walked}
-use Rattle.walk.specs.Contracts.{plainAt, noWalk, walkOf}
+use Rattle.walk.specs.Contracts.{noWalk, walkOf}
 
 -- A half and a pin.
 abbrev pub walk : Volatile → ℕ → Walked
@@ -21,6 +20,7 @@ walk v p = record { volatile = v; pin = p }
 -- A walk: CLK's rise and fall where the pin shows a bit and where it shows nothing; no other step is one.
 abbrev pub Walks : Type 0
 Walks =
+    (noWalk (half 17 0 0) ≡ walk (half 17 0 0) 255) ×
     Gives (λ v. walkOf (given sample 5 v) 21)
     ((half 17 0 0, walk (half 21 0 16) zero) ∷
     (half 17 1 5, walk (half 21 1 21) one) ∷
@@ -55,25 +55,6 @@ Walks =
     (walkOf (given sample 5 (half 81 0 0)) 85 ≡ noWalk (half 81 0 0)) ×
     Gives (walkOf (given sample 5 (half 17 0 0)))
     ((19, noWalk (half 17 0 0)) ∷ (1, noWalk (half 17 0 0)) ∷ (5, noWalk (half 17 0 0)) ∷ (17, noWalk (half 17 0 0)) ∷ []) ×
-    Gives plainAt
-    ((79, true) ∷
-    (80, false) ∷
-    (104, false) ∷
-    (105, true) ∷
-    (175, true) ∷
-    (176, false) ∷
-    (177, false) ∷
-    (178, true) ∷
-    (1198, true) ∷
-    (1199, false) ∷
-    (1232, false) ∷
-    (1233, true) ∷
-    (1359, true) ∷
-    (1360, false) ∷
-    (1361, true) ∷
-    (1519, true) ∷
-    (1520, false) ∷
-    []) ×
     (walkOf (given sample 7 (half 17 0 0)) 21 ≡ walk (half 21 0 16) zero) ×
     (walkOf (given sample 8 (half 17 0 0)) 21 ≡ noWalk (half 17 0 0)) ×
     (walkOf (given (take 173 sample) 5 (half 17 0 0)) 21 ≡ noWalk (half 17 0 0))

@@ -6,21 +6,15 @@ use lib.Bits.{bitAnd, bitXor}
 use lib.ListN.{length}
 use Rattle.memory.specs.Image.{bytes, digit}
 use Rattle.rules.specs.Halves.{Card}
-use Rattle.rules.specs.Zones.{between}
 use Rattle.rules.specs.Steps.{next, pin}
 use Rattle.volatile.specs.declared.Volatile.{Volatile}
 use Rattle.volatile.specs.Packed.{packed, Given, cardOf}
+use Rattle.shown.specs.Shown.{plainAt}
 use Rattle.walk.specs.declared.Walked.{Walked}
 
 -- CLK alone differs, and of the flags above R1 none is set, or the latch alone and CLK high.
 unfoldable pub calm : Volatile → ℕ → Bool
 calm v n = eqb (bitXor (v .lines) n) 4 && (eqb (v .flags / 8) 0 || eqb (v .flags / 8) (bitAnd (v .lines) 4 / 2))
-
--- Addresses that CLK's fall comes to without a compare before and without an effect of the arrival, and that neither level nor fuses guard:
--- within FZ and IZ, in SCAC past the end of match and within CPZ, in AZ past its flags and before its last, within EC, and past the first
--- of MTZ.
-unfoldable pub plainAt : ℕ → Bool
-plainAt a = ltb a 80 || (between 105 175 a || (between 178 1198 a || (between 1233 1359 a || between 1361 1519 a)))
 
 -- The address after CLK's rise or fall.
 unfoldable pub walkedTo : ℕ → ℕ → ℕ

@@ -1,25 +1,15 @@
--- A walk by its parts: what the pin shows, the half, and what the tests let pass.
+-- A walk by its parts: the half, and what the tests let pass.
 use Prim.Native.Nat.{ℕ, _+_, _≤_, _<_}
 use mathlib.Core.Path.{_≡_}
 use mathlib.Core.Bool.{true, cond}
-use lib.Dec.{eqb, ltb}
 use lib.Bits.{bitAnd}
 use lib.ListN.{length}
 use Rattle.memory.specs.Image.{bytes, digit}
 use Rattle.rules.specs.Halves as Halves
-use Rattle.rules.specs.Zones.{zone}
-use Rattle.rules.specs.Rights.{held, mayRead}
 use Rattle.rules.specs.Steps.{clkRises}
 use Rattle.volatile.specs.declared.Volatile.{Volatile}
 use Rattle.volatile.specs.Packed.{packed, unpacked, Given, goneOn}
-use Rattle.walk.specs.Contracts.{calm, plainAt}
-
--- What the pin shows at an address that a walk comes to: 1 its bit, 0 nothing; 2 where none does.
-pub record Shows (a flags r : ℕ) : Type 0 where
-  pub plain : plainAt a ≡ ltb r 2
-  pub small : r ≤ 2
-  pub read :
-      r < 2 → (fuses : ℕ) (v : Halves.Volatile) → v .sv ≡ digit 0 flags → v .r1 ≡ digit 2 flags → mayRead (held fuses v) (zone a) ≡ eqb r 1
+use Rattle.walk.specs.Contracts.{calm}
 
 -- The half after CLK's rise or fall on a walk.
 unfoldable pub walkedHalf : Volatile → ℕ → Volatile

@@ -6,8 +6,9 @@ ghost use mathlib.Core.Bool.{cond};
 ghost use Prim.Native.Nat.{_<_};
 ghost use Rattle.rules.specs.Steps.{next};
 ghost use Rattle.volatile.specs.Packed.{given, cardOf};
-ghost use Rattle.walk.specs.Contracts.{calm, plainAt, walkedTo, walkTo, noWalk, walkOf};
-ghost use Rattle.walk.specs.Inside.{Shows, walkedHalf, Calm};
+ghost use Rattle.shown.specs.Shown.{plainAt};
+ghost use Rattle.walk.specs.Contracts.{calm, walkedTo, walkTo, noWalk, walkOf};
+ghost use Rattle.walk.specs.Inside.{walkedHalf, Calm};
 
 // VCC, RST, PGM, and the bits that are no line.
 const ALL_BUT_CLK_IO_FUS: u32 = 203;
@@ -19,54 +20,6 @@ pub const NO_WALK: u8 = 255;
 pub struct Walked {
     pub volatile: Volatile,
     pub pin: u8,
-}
-
-// What the pin shows: nothing, or the bit.
-const NOTHING: u8 = 0;
-
-pub const BIT: u8 = 1;
-
-// A compare, an arrival or the table of rights has a say.
-pub const APART: u8 = 2;
-
-// What the pin shows at an address that a walk comes to.
-pub fn shows(a: u32, flags: u32) -> u8
-    ensures { λ r. ⌜ Shows a flags r ⌝ }
-{
-    if a < 176 {
-        if a < 80 {
-            return BIT;
-        }
-        if a < 105 {
-            return APART;
-        }
-        return BIT;
-    }
-    if a < 1199 {
-        if a < 178 {
-            return APART;
-        }
-        if flags & 5 != 0 {
-            return BIT;
-        }
-        return NOTHING;
-    }
-    if a < 1361 {
-        if a < 1233 {
-            return APART;
-        }
-        if a < 1360 {
-            return BIT;
-        }
-        return APART;
-    }
-    if a < 1392 {
-        return BIT;
-    }
-    if a <= rules::LAST {
-        return NOTHING;
-    }
-    APART
 }
 
 // CLK alone turns over, and of the flags above R1 none is set, or the latch alone and CLK high.
@@ -104,14 +57,14 @@ fn comes_to(v: Volatile, image: &[u8], fuses: u8, n: u32) -> Walked
     ensures { λ r. ⌜ r ≡ cond (plainAt (walkedTo (v .address) n)) (walkTo (next (cardOf (given (now (image .entry)) fuses v)) n)) (noWalk v) ⌝ }
 {
     let next = clocks(v, n);
-    let shown = shows(next.address, next.flags);
-    if shown == APART {
+    let shows = shown::shows(next.address, next.flags);
+    if shows == shown::APART {
         return none(v);
     }
     let bit = memory::read_bit(image, next.address as usize);
     Walked {
         volatile: next,
-        pin: volatile::pin_value(shown == BIT, bit),
+        pin: volatile::pin_value(shows == shown::BIT, bit),
     }
 }
 

@@ -74,9 +74,9 @@ drive-spec =
     (tie.spec
     Inv-loop
     μ-loop
-    (λ c κs. search needs)
+    (search needs)
     loop-holds
-    (λ c. search needs)
+    (search needs)
     cast-step
     step-requires
     (λ c. let done = stepped (c .before) in done .step .kept .1 .0 ∙ same-image (tested (done .before) .before .loop .inv))

@@ -17,4 +17,4 @@ returns c =
 pub step-by-run-spec : {M : Type 1} → statement M
 step-by-run-spec =
     tie.close
-    (tie.spec (λ c. search needs) (λ c. search needs) drive-requires (λ c. search needs) (λ c. search needs) returns)
+    (tie.spec (search needs) (λ c. search needs) drive-requires (λ c. search needs) (λ c. search needs) returns)

@@ -20,15 +20,9 @@ pub step-told-spec : {M : Type 1} → statement M
 step-told-spec =
     tie.close
     (tie.spec
-    (λ c κs. search needs)
-    (λ c. search needs)
+    (search needs) (search needs)
     returns
-    (λ c κs. search needs)
-    (λ c. search needs)
-    (λ c κs. search needs)
-    (λ c. search needs)
-    (λ c κs. search needs)
-    (λ c. search needs)
+    (search needs) (search needs) (search needs) (search needs) (search needs) (search needs)
     returns-2
-    (λ c. search needs)
+    (search needs)
     (λ c. search needs))

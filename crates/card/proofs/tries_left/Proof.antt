@@ -16,4 +16,4 @@ unfolding triesLeft
 returns-2 c = ones-of-byte (getD (now (c .before .before .args .image)) 12 0) (c .shared-slice-known .given 12 .fits)
 
 pub tries-left-spec : {M : Type 1} → statement M
-tries-left-spec = tie.close (tie.spec returns (λ c. search needs) returns-2)
+tries-left-spec = tie.close (tie.spec returns (search needs) returns-2)

@@ -11,20 +11,16 @@ session : (c : tie.After-m) → Taken (Bytes (c .m .given .0 .0)) (c .before .be
 session c = rw (c .m .given .1) at (c .before .before .before .read2 .ensures)
 
 array-share-prefix-source : tie.Need-array-share-prefix-source
-array-share-prefix-source c =
-    let said = c .before .before .before .before .before .before in
-    text (said .before .before .before .before .before) .0
+array-share-prefix-source c = text (c .before .before .before .before .before .before .before) .0
 
 slice-aggregate-taught : tie.Need-slice-aggregate-taught
-slice-aggregate-taught c =
-    let said = c .before .before .before .before .before .before .before in
-    text (said .before .before .before .before .before) .1
+slice-aggregate-taught c = text (c .before .before .before .before .before .before .before .before) .1
 
 array-share-prefix-recorded : tie.Need-array-share-prefix-recorded
-array-share-prefix-recorded c = session (c .before .before .before .before .before .before) .0
+array-share-prefix-recorded c = session (c .before .before) .0
 
 slice-aggregate-taught-2 : tie.Need-slice-aggregate-taught-2
-slice-aggregate-taught-2 c = session (c .before .before .before .before .before .before .before) .1
+slice-aggregate-taught-2 c = session (c .before .before .before) .1
 
 pub lesson-spec : {M : Type 1} → statement M
 lesson-spec =
@@ -32,7 +28,6 @@ lesson-spec =
     (tie.spec
     (search needs) (search needs) (search needs) (search needs) (search needs) (search needs) (search needs) (search needs)
     (search needs) (search needs) (search needs) (search needs) (search needs) (search needs) (search needs) (search needs)
-    (search needs) (search needs) (search needs) (search needs)
     array-share-prefix-source
     slice-aggregate-taught
     array-share-prefix-recorded

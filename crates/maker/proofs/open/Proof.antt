@@ -7,7 +7,7 @@ use lib.ListN.{length}
 use Rattle.memory.proofs.Buffer.{then}
 use Rattle.rules.specs.Maker.{open-card, actRefusal, openRefusal}
 use Rattle.maker.proofs.Acting.{refused-by, wrote-by}
-use Rattle.maker.proofs.Lists.{open-halves, open-refused}
+use Rattle.maker.proofs.Opening.{open-halves, open-refused}
 use Rattle.maker.proofs.open.Statement.{statement}
 use Rattle.maker.proofs.open.Tie as tie
 

@@ -1,10 +1,8 @@
 use borrow.Author.Needs.{needs}
-use Rattle.rules.specs.Maker.{program}
 use Rattle.maker.proofs.program.Statement.{statement}
 use Rattle.maker.proofs.program.Tie as tie
 
 returns : tie.Need-returns
-unfolding program
 returns c = rw (c .before .before .before .before .before .program .ensures) at (c .before .before .raw .ensures)
 
 pub program-spec : {M : Type 1} → statement M

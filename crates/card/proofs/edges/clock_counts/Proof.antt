@@ -23,10 +23,5 @@ pub clock-counts-spec : {M : Type 1} → statement M
 clock-counts-spec =
     tie.close
     (tie.spec
-    (λ c κs. search needs)
-    (λ c κs. search needs)
-    (λ c κs. search needs)
-    (λ c κs. search needs)
-    (λ c κs. search needs)
-    (λ c κs. search needs)
+    (search needs) (search needs) (search needs) (search needs) (search needs) (search needs)
     returns)

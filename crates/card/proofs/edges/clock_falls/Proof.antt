@@ -5,7 +5,7 @@ use Rattle.rules.specs.Lines.{CLK, high, place, mask}
 use Rattle.volatile.specs.Packed.{unpacked}
 use Rattle.edge_laws.proofs.ByLine.{turned, address-within, keeps}
 use Rattle.edge_laws.proofs.ByLine.{clk-unpowered, clk-unpowered-kept, clk-reset, clk-reset-kept, clk-counts}
-use Rattle.walk.proofs.Walks.{walks}
+use Rattle.card.proofs.Walks.{walks}
 use borrow.Author.Needs.{needs}
 use Rattle.card.proofs.edges.clock_falls.Statement.{statement}
 use Rattle.card.proofs.edges.clock_falls.Tie as tie
@@ -78,21 +78,11 @@ clock-falls-spec =
     tie.close
     (tie.spec
     add-a
-    (λ c κs. search needs)
-    (λ c. search needs)
-    (λ c κs. search needs)
-    (λ c κs. search needs)
-    (λ c κs. search needs)
-    (λ c κs. search needs)
+    (search needs) (search needs) (search needs) (search needs) (search needs) (search needs)
     returns
-    (λ c κs. search needs)
-    (λ c κs. search needs)
-    (λ c κs. search needs)
+    (search needs) (search needs) (search needs)
     returns-2
-    (λ c κs. search needs)
-    (λ c κs. search needs)
-    (λ c κs. search needs)
-    (λ c κs. search needs)
+    (search needs) (search needs) (search needs) (search needs)
     returns-3
     clock-counts-requires
     returns-4)

@@ -13,4 +13,4 @@ unfolding following
 returns-2 c = rw (ne-eqb (c .before .args .a) 1519 (c .if1 .left))
 
 pub following-spec : {M : Type 1} → statement M
-following-spec = tie.close (tie.spec returns (λ c. search needs) returns-2)
+following-spec = tie.close (tie.spec returns (search needs) returns-2)

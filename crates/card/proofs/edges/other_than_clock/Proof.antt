@@ -16,10 +16,7 @@ pub other-than-clock-spec : {M : Type 1} → statement M
 other-than-clock-spec =
     tie.close
     (tie.spec
-    (λ c κs. search needs)
-    (λ c κs. search needs)
+    (search needs) (search needs)
     returns
-    (λ c κs. search needs)
-    (λ c. search needs)
-    (λ c κs. search needs)
+    (λ c κs. search needs) (λ c. search needs) (λ c κs. search needs)
     (λ c. search needs))

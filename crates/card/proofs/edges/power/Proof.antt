@@ -38,12 +38,9 @@ pub power-spec : {M : Type 1} → statement M
 power-spec =
     tie.close
     (tie.spec
-    (λ c κs. search needs)
-    (λ c κs. search needs)
-    (λ c κs. search needs)
+    (search needs) (search needs) (search needs)
     returns
-    (λ c κs. search needs)
+    (search needs)
     returns-2
-    (λ c κs. search needs)
-    (λ c κs. search needs)
+    (search needs) (search needs)
     returns-3)

@@ -8,4 +8,4 @@ returns c = rw (c .with-fuses .ensures, c .before .known .ensures, c .before .be
 pub power-spec : {M : Type 1} → statement M
 power-spec =
     tie.close
-    (tie.spec (λ c κs. search needs) (λ c κs. search needs) (λ c κs. search needs) returns)
+    (tie.spec (search needs) (λ c κs. search needs) (λ c κs. search needs) returns)

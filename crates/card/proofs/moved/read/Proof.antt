@@ -9,4 +9,4 @@ returns : tie.Need-returns
 returns c = ap (λ (p : ℕ). moved (c .before .before .args .v) p 0) (c .pin .ensures)
 
 pub read-spec : {M : Type 1} → statement M
-read-spec = tie.close (tie.spec (λ c κs. search needs) returns)
+read-spec = tie.close (tie.spec (search needs) returns)

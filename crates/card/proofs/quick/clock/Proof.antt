@@ -52,15 +52,10 @@ pub clock-spec : {M : Type 1} → statement M
 clock-spec =
     tie.close
     (tie.spec
-    (λ c κs. search needs)
-    (λ c κs. search needs)
+    (search needs) (search needs)
     returns
-    (λ c κs. search needs)
-    (λ c κs. search needs)
+    (search needs) (search needs)
     returns-2
-    (λ c κs. search needs)
-    (λ c κs. search needs)
-    (λ c κs. search needs)
-    (λ c κs. search needs)
+    (search needs) (search needs) (search needs) (search needs)
     returns-3
     returns-4)

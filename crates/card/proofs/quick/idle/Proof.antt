@@ -28,4 +28,4 @@ returns-4 c = tt
 pub idle-spec : {M : Type 1} → statement M
 idle-spec =
     tie.close
-    (tie.spec (λ c κs. search needs) returns (λ c κs. search needs) returns-2 (λ c κs. search needs) returns-3 returns-4)
+    (tie.spec (search needs) returns (λ c κs. search needs) returns-2 (λ c κs. search needs) returns-3 returns-4)
