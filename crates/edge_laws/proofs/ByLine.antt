@@ -16,7 +16,7 @@ use Rattle.rules.specs.Refusals.{anySet, madeUp, many, edgeRefusal, refusal}
 use Rattle.rules.specs.Match.{arrived}
 use Rattle.rules.specs.Steps.{follows, withVolatile, vccFalls, clkRises, rstFalls, unlatched, clocked, clkFalls, powered, next}
 use Rattle.rules.specs.Steps.{driven, pinValue, pin}
-use Rattle.theorems.proofs.Tests.{neither, edge-same}
+use Rattle.theorems.proofs.Tests.{cond-cases, neither, edge-same}
 use Rattle.theorems.proofs.Soundness.{Sound, sound}
 use Rattle.volatile.specs.declared.Volatile.{Volatile}
 use Rattle.volatile.specs.Packed.{packed, unpacked, Given, cardOf, handedBack, withHalf, programmedCard, madeUpWord}
@@ -24,7 +24,7 @@ use Rattle.volatile.proofs.Packing.{unpacked-packed, packed-unpacked}
 use Rattle.volatile.specs.Inner.{Ready, Steps}
 use Rattle.edge_laws.proofs.Turned.{by-difference, edge-by-difference, small-step, Turned, turned-by}
 use Rattle.edge_laws.proofs.LineMasks.{vcc-clk-pgm, vcc-rst, clk-pgm, high-low}
-use Rattle.edge_laws.proofs.EdgeRefusals.{same-refusal, clk-refusal, pgm-refusal, rst-refusal, fus-refusal, io-refusal, vcc-refusal}
+use Rattle.edge_laws.proofs.EdgeRefusals.{refused, line-refusal, same-refusal}
 
 -- 9's clauses, of a packed half.
 pub flags-small : (v : Volatile) → madeUpWord v ≡ false → v .flags < 128
@@ -40,32 +40,9 @@ off-then : (a b : Bool) → (a ≡ true → b ≡ true) → b ≡ false → a �
 off-then true b f e = sym (f refl) ∙ e
 off-then false b f e = refl
 
-same-sides : {A : Type 0} (t : Bool) (x : A) → cond t x x ≡ x
-same-sides true x = refl
-same-sides false x = refl
-
 programming-set : (v : Halves.Volatile) → v .programming ≡ true → anySet v ≡ true
 unfolding anySet
-programming-set v e =
-    rw (
-      e,
-      or-true (v .latch),
-      or-true (v .matched),
-      or-true (v .e1),
-      or-true (v .r1),
-      or-true (v .p1),
-      or-true (v .sv),
-      or-true (not (eqb (v .address) 0)),
-    )
-
-or-not : (a b : Bool) → not (a || b) ≡ (not a && not b)
-or-not true b = refl
-or-not false b = refl
-
--- Without VCC, with RST or PGM high, or in programming the line is released.
-released : (c : Card) → driven (c .fuses) (c .volatile) ≡ false → pin c ≡ 1
-unfolding pin pinValue
-released c e = rw e
+programming-set v e = simp (e, or-true)
 
 -- The pin of a card with this packed half, as it is read.
 abbrev pub pinAt : Given → Volatile → ℕ
@@ -119,10 +96,7 @@ module _ {g : Given} {p : ℕ} (ready : Ready g p) (n : ℕ) where
   goes-to after e q = record { refused = sym e; accepted = λ _. (ap handedBack (sym q), ap pin (sym q)); kept = λ h. absurd (h refl) }
 
   pub stays : (k : ℕ) → refusal w n ≡ suc k → Steps g p n g p (suc k)
-  stays k e = record { refused = sym e; accepted = λ z. absurd (ne (z)); kept = λ _. (refl, refl) }
-    where
-      ne : suc k ≡ 0 → ⊥
-      ne z = omega (arith, z)
+  stays k e = record { refused = sym e; accepted = λ z. absurd (omega arith); kept = λ _. (refl, refl) }
 
   -- An accepted step that changes the volatile half alone, to u.
   pub record Goes (u : Halves.Volatile) : Type 0 where
@@ -139,13 +113,7 @@ module _ {g : Given} {p : ℕ} (ready : Ready g p) (n : ℕ) where
 
   -- The difference is one line's mask.
   pub turned : (x : Line) → bitXor l n ≡ mask x → Turned x l n
-  unfolding by-difference change mask place
-  turned VCC e = turned-by VCC l n 1 (levels-small ready) e (omega arith) refl
-  turned RST e = turned-by RST l n 2 (levels-small ready) e (omega arith) refl
-  turned CLK e = turned-by CLK l n 4 (levels-small ready) e (omega arith) refl
-  turned PGM e = turned-by PGM l n 8 (levels-small ready) e (omega arith) refl
-  turned IO e = turned-by IO l n 16 (levels-small ready) e (omega arith) refl
-  turned FUS e = turned-by FUS l n 32 (levels-small ready) e (omega arith) refl
+  turned x = turned-by x l n (levels-small ready)
 
   -- The refusal and the next card, by the edge.
   refusal-at : (e : Edge) → n < 64 → edge l n ≡ e → refusal w n ≡ edgeRefusal e l (w .programming)
@@ -157,80 +125,77 @@ module _ {g : Given} {p : ℕ} (ready : Ready g p) (n : ℕ) where
   unfolding next unpacked
   next-at e t q h = rw (q, h)
 
-  -- A line x that is turned over has this refusal.
-  refused-by : {x : Line} (k : ℕ) → Turned x l n → edgeRefusal (change x l) l (w .programming) ≡ k → refusal w n ≡ k
-  refused-by {x} k t e = refusal-at (change x l) (t .small) (t .edge-is) ∙ e
+  -- What a line x that is turned over is refused by.
+  abbrev told : Line → ℕ
+  told x = refused x (high x l) (high VCC l) (w .programming) (high CLK l) (high PGM l)
+
+  refused-by : {x : Line} {k : ℕ} → Turned x l n → told x ≡ k → refusal w n ≡ k
+  refused-by {x} t e = refusal-at (change x l) (t .small) (t .edge-is) ∙ (line-refusal l (w .programming) x ∙ e)
 
   -- It leads to what its edge does with VCC on; "Without VCC the lines only follow."
   on-goes :
-      {x : Line} (u : Halves.Volatile) → Turned x l n → edgeRefusal (change x l) l (w .programming) ≡ 0 → high VCC l ≡ true →
+      {x : Line} {u : Halves.Volatile} → Turned x l n → told x ≡ 0 → high VCC l ≡ true →
       powered (change x l) n card ≡ withVolatile card u → Goes u
-  on-goes {x} u t e h q = record { none = refused-by 0 t e; there = next-at (change x l) true (t .edge-is) h ∙ q }
+  on-goes {x} t e h q = record { none = refused-by t e; there = next-at (change x l) true (t .edge-is) h ∙ q }
 
-  off-goes : {x : Line} → Turned x l n → edgeRefusal (change x l) l (w .programming) ≡ 0 → high VCC l ≡ false → Goes (follows n w)
-  off-goes {x} t e h = record { none = refused-by 0 t e; there = next-at (change x l) false (t .edge-is) h }
+  off-goes : {x : Line} → Turned x l n → told x ≡ 0 → high VCC l ≡ false → Goes (follows n w)
+  off-goes {x} t e h = record { none = refused-by t e; there = next-at (change x l) false (t .edge-is) h }
 
   -- A line that does no more than follow, with VCC and without.
   follows-goes :
-      {x : Line} → Turned x l n → edgeRefusal (change x l) l (w .programming) ≡ 0 →
-      powered (Rises x) n card ≡ withVolatile card (follows n w) → powered (Falls x) n card ≡ withVolatile card (follows n w) →
+      {x : Line} → Turned x l n → told x ≡ 0 →
+      powered (Falls x) n card ≡ withVolatile card (follows n w) → powered (Rises x) n card ≡ withVolatile card (follows n w) →
       Goes (follows n w)
   unfolding change
-  follows-goes {x} t e r f =
-      record {
-        none = refused-by 0 t e;
-        there =
-            next-at (change x l) (high VCC l) (t .edge-is) refl ∙
-            (ap (λ (y : Card). cond (high VCC l) y there) (go (high x l)) ∙ same-sides (high VCC l) there);
-      }
+  follows-goes {x} t e f r = go (high VCC l) refl
     where
-      there : Card
-      there = withVolatile card (follows n w)
-
-      go : (b : Bool) → powered (cond b (Falls x) (Rises x)) n card ≡ there
-      go true = f
-      go false = r
+      go : (vcc : Bool) → high VCC l ≡ vcc → Goes (follows n w)
+      go true h =
+          on-goes t e h
+          (cond-cases (λ (y : Edge). powered y n card ≡ withVolatile card (follows n w)) (high x l) (λ _. f) (λ _. r))
+      go false h = off-goes t e h
 
   -- Without VCC, with RST or with PGM high the pin is released, whatever else.
-  unpowered-pin : (u : Halves.Volatile) → high VCC (u .lines) ≡ false → pin (withVolatile card u) ≡ 1
-  unfolding driven
-  unpowered-pin u e = released (withVolatile card u) (rw e)
+  module _ (u : Halves.Volatile) where
+    unpowered-pin : high VCC (u .lines) ≡ false → pin (withVolatile card u) ≡ 1
+    unfolding pin pinValue driven
+    unpowered-pin e = rw e
 
-  reset-pin : (u : Halves.Volatile) → high RST (u .lines) ≡ true → pin (withVolatile card u) ≡ 1
-  unfolding driven
-  reset-pin u e = released (withVolatile card u) (rw (e, and-false (high VCC (u .lines))))
+    reset-pin : high RST (u .lines) ≡ true → pin (withVolatile card u) ≡ 1
+    unfolding pin pinValue driven
+    reset-pin e = rw (e, and-false (high VCC (u .lines)))
 
-  program-pin : (u : Halves.Volatile) → high PGM (u .lines) ≡ true → pin (withVolatile card u) ≡ 1
-  unfolding driven
-  program-pin u e = released (withVolatile card u) (rw (e, and-false (not (high RST (u .lines))), and-false (high VCC (u .lines))))
+    program-pin : high PGM (u .lines) ≡ true → pin (withVolatile card u) ≡ 1
+    unfolding pin pinValue driven
+    program-pin e = simp (e, and-false)
 
   -- FUS.
   module _ (t : Turned FUS l n) where
     pub fus-refused : w .programming ≡ true → Steps g p n g p 3
-    fus-refused q = stays 2 (refused-by 3 t (fus-refusal l (w .programming) ∙ rw (q, power-on ready q)))
+    fus-refused q = stays 2 (refused-by t (rw (q, power-on ready q)))
 
     pub fus-goes : w .programming ≡ false → Goes (follows n w)
     unfolding powered
-    fus-goes q = follows-goes t (fus-refusal l (w .programming) ∙ rw (q, and-false (high VCC l))) refl refl
+    fus-goes q = follows-goes t (rw (q, and-false (high VCC l))) refl refl
 
   -- PGM.
   module _ (t : Turned PGM l n) where
-    rises-in-clk : (high VCC l && (high CLK l && not (high PGM l))) ≡ eqb (bitAnd n 13) 13
+    rises-in-clk : (high VCC l && (not (high PGM l) && high CLK l)) ≡ eqb (bitAnd n 13) 13
     unfolding place
     rises-in-clk = rw (← t .others VCC refl, ← t .others CLK refl, ← t .over) (sym (vcc-clk-pgm n))
 
     pub pgm-refused : bitAnd n 13 ≡ 13 → Steps g p n g p 6
-    pgm-refused h = stays 5 (refused-by 6 t (pgm-refusal l (w .programming) ∙ rw (rises-in-clk, h)))
+    pgm-refused h = stays 5 (refused-by t (rw (rises-in-clk, h)))
 
     pub pgm-goes : (bitAnd n 13 ≡ 13 → ⊥) → Goes (follows n w)
     unfolding powered
-    pgm-goes h = follows-goes t (pgm-refusal l (w .programming) ∙ rw (rises-in-clk, ne-eqb (bitAnd n 13) 13 h)) refl refl
+    pgm-goes h = follows-goes t (rw (rises-in-clk, ne-eqb (bitAnd n 13) 13 h)) refl refl
 
   -- I/O, which changes nothing that the pin looks at.
   module _ (t : Turned IO l n) where
     pub io-goes : Goes (follows n w)
     unfolding powered
-    io-goes = follows-goes t (io-refusal l (w .programming)) refl refl
+    io-goes = follows-goes t refl refl refl
 
     pub io-kept : p ≡ pin (withVolatile card (follows n w))
     unfolding follows pin driven held place unpacked
@@ -239,7 +204,7 @@ module _ {g : Given} {p : ℕ} (ready : Ready g p) (n : ℕ) where
   -- RST.
   module _ (t : Turned RST l n) where
     pub rst-in-programming : w .programming ≡ true → Steps g p n g p 3
-    rst-in-programming q = stays 2 (refused-by 3 t (rst-refusal l (w .programming) ∙ rw (power-on ready q, q)))
+    rst-in-programming q = stays 2 (refused-by t (rw (power-on ready q, q)))
 
     module _ (q : w .programming ≡ false) where
       -- It rises, or VCC is off.
@@ -252,8 +217,8 @@ module _ {g : Given} {p : ℕ} (ready : Ready g p) (n : ℕ) where
 
           go : (a b : Bool) → high VCC l ≡ a → high RST l ≡ b → (a && not (not b)) ≡ false → Goes (follows n w)
           go true true vcc rst e = absurd (false≢true (sym e))
-          go true false vcc rst e = on-goes (follows n w) t (rst-refusal l (w .programming) ∙ rw (vcc, q, rst)) vcc (rw rst)
-          go false b vcc rst e = off-goes t (rst-refusal l (w .programming) ∙ rw vcc) vcc
+          go true false vcc rst e = on-goes t (rw (vcc, q, rst)) vcc (rw rst)
+          go false b vcc rst e = off-goes t (rw vcc) vcc
 
       module _ (falls : bitAnd n 3 ≡ 1) where
         fell-low : (high VCC l ≡ true) × (high RST l ≡ true)
@@ -264,21 +229,18 @@ module _ {g : Given} {p : ℕ} (ready : Ready g p) (n : ℕ) where
 
         pub rst-refused : high CLK n ≡ true → Steps g p n g p 5
         unfolding place
-        rst-refused k =
-            stays 4 (refused-by 5 t (rst-refusal l (w .programming) ∙ rw (fell-low .0, q, fell-low .1, sym (t .others CLK refl) ∙ k)))
+        rst-refused k = stays 4 (refused-by t (rw (fell-low .0, q, fell-low .1, ← t .others CLK refl, k)))
 
         pub rst-falls : high CLK n ≡ false → Goes (arrived [] 0 0 (follows n w))
         unfolding powered change rstFalls arrived place
         rst-falls k =
-            on-goes (arrived [] 0 0 (follows n w)) t
-            (rst-refusal l (w .programming) ∙ rw (fell-low .0, q, fell-low .1, sym (t .others CLK refl) ∙ k))
-            (fell-low .0) (rw (fell-low .1))
+            on-goes t (rw (fell-low .0, q, fell-low .1, ← t .others CLK refl, k)) (fell-low .0) (rw (fell-low .1))
 
   -- VCC.
   module _ (t : Turned VCC l n) where
     vcc-falls : high VCC l ≡ true → Goes (off n)
     unfolding powered change vccFalls
-    vcc-falls h = on-goes (off n) t (vcc-refusal l (w .programming) ∙ rw h) h (rw h)
+    vcc-falls h = on-goes t (rw h) h (rw h)
 
     off-pin : high VCC n ≡ false → pin (withVolatile card (off n)) ≡ 1
     unfolding off
@@ -298,40 +260,40 @@ module _ {g : Given} {p : ℕ} (ready : Ready g p) (n : ℕ) where
 
       lines-up : not (high CLK l || high PGM l) ≡ eqb (bitAnd n 12) 0
       unfolding place
-      lines-up = rw (← t .others CLK refl, ← t .others PGM refl) (or-not (high CLK n) (high PGM n) ∙ sym (clk-pgm n))
+      lines-up = rw (← t .others CLK refl, ← t .others PGM refl) (sym (clk-pgm n))
 
       pub vcc-refused : (bitAnd n 12 ≡ 0 → ⊥) → Steps g p n g p 7
       vcc-refused h =
           let up = not-false (high CLK l || high PGM l) (lines-up ∙ ne-eqb (bitAnd n 12) 0 h) in
-          stays 6 (refused-by 7 t (vcc-refusal l (w .programming) ∙ rw (was-off, up)))
+          stays 6 (refused-by t (rw (was-off, up)))
 
       pub vcc-rises : bitAnd n 12 ≡ 0 → Goes (follows n w)
       vcc-rises h =
           let low = not-true (high CLK l || high PGM l) (lines-up ∙ eq-eqb (bitAnd n 12) 0 h) in
-          off-goes t (vcc-refusal l (w .programming) ∙ rw (was-off, low)) was-off
+          off-goes t (rw (was-off, low)) was-off
 
   -- CLK.
   module _ (t : Turned CLK l n) where
-    same-vcc : (b : Bool) → high VCC n ≡ b → high VCC l ≡ b
+    same-vcc : {b : Bool} → high VCC n ≡ b → high VCC l ≡ b
     unfolding place
-    same-vcc b e = sym (t .others VCC refl) ∙ e
+    same-vcc e = sym (t .others VCC refl) ∙ e
 
-    same-rst : (b : Bool) → high RST n ≡ b → high RST l ≡ b
+    same-rst : {b : Bool} → high RST n ≡ b → high RST l ≡ b
     unfolding place
-    same-rst b e = sym (t .others RST refl) ∙ e
+    same-rst e = sym (t .others RST refl) ∙ e
 
-    same-pgm : (b : Bool) → high PGM n ≡ b → high PGM l ≡ b
+    same-pgm : {b : Bool} → high PGM n ≡ b → high PGM l ≡ b
     unfolding place
-    same-pgm b e = sym (t .others PGM refl) ∙ e
+    same-pgm e = sym (t .others PGM refl) ∙ e
 
     pub clk-unpowered : high VCC n ≡ false → Goes (follows n w)
     clk-unpowered e =
-        let h = same-vcc false e in
-        off-goes t (clk-refusal l (w .programming) ∙ rw (h, and-false (high CLK l))) h
+        let h = same-vcc e in
+        off-goes t (rw h) h
 
     pub clk-unpowered-kept : high VCC n ≡ false → p ≡ pin (withVolatile card (follows n w))
     unfolding follows unpacked
-    clk-unpowered-kept e = ready .pinned ∙ (unpowered-pin w (same-vcc false e) ∙ sym (unpowered-pin (follows n w) e))
+    clk-unpowered-kept e = ready .pinned ∙ (unpowered-pin w (same-vcc e) ∙ sym (unpowered-pin (follows n w) e))
 
     -- Its rise leaves the pin as it was with PGM low, and released with PGM high.
     rising-pin : high PGM l ≡ false → w .programming ≡ false → pin card ≡ pin (withVolatile card (clkRises n w))
@@ -345,50 +307,48 @@ module _ {g : Given} {p : ℕ} (ready : Ready g p) (n : ℕ) where
 
         pub clk-rises : Goes (clkRises n w)
         unfolding powered change
-        clk-rises = on-goes (clkRises n w) t (clk-refusal l (w .programming) ∙ rw was-low) (same-vcc true on) (rw was-low)
+        clk-rises = on-goes t (simp (was-low, and-false)) (same-vcc on) (rw was-low)
 
         pub clk-rises-kept : p ≡ pin (withVolatile card (clkRises n w))
         unfolding clkRises unpacked
         clk-rises-kept = ready .pinned ∙ go (high PGM n) refl
           where
             go : (b : Bool) → high PGM n ≡ b → pin card ≡ pin (withVolatile card (clkRises n w))
-            go true h = program-pin w (same-pgm true h) ∙ sym (program-pin (clkRises n w) h)
-            go false h = rising-pin (same-pgm false h) (idle ready was-low)
+            go true h = program-pin w (same-pgm h) ∙ sym (program-pin (clkRises n w) h)
+            go false h = rising-pin (same-pgm h) (idle ready was-low)
 
       module _ (down : high CLK n ≡ false) (q : w .programming ≡ false) where
         was-high : high CLK l ≡ true
         was-high = not-false (high CLK l) (sym (t .over) ∙ down)
 
-        none-refused : edgeRefusal (change CLK l) l (w .programming) ≡ 0
-        none-refused = clk-refusal l (w .programming) ∙ rw (same-vcc true on, was-high, q)
+        none-refused : told CLK ≡ 0
+        none-refused = rw (q, and-false (high VCC l))
 
         pub clk-reset : high RST n ≡ true → Goes (unlatched n (w .matched) w)
         unfolding powered change clkFalls unpacked
-        clk-reset r = on-goes (unlatched n (w .matched) w) t none-refused (same-vcc true on) (rw (was-high, q, same-rst true r))
+        clk-reset r = on-goes t none-refused (same-vcc on) (rw (was-high, q, same-rst r))
 
         pub clk-reset-kept : high RST n ≡ true → p ≡ pin (withVolatile card (unlatched n (w .matched) w))
         unfolding unlatched unpacked
-        clk-reset-kept r = ready .pinned ∙ (reset-pin w (same-rst true r) ∙ sym (reset-pin (unlatched n (w .matched) w) r))
+        clk-reset-kept r = ready .pinned ∙ (reset-pin w (same-rst r) ∙ sym (reset-pin (unlatched n (w .matched) w) r))
 
         module _ (r : high RST n ≡ false) where
           is-clocked : powered (change CLK l) n card ≡ clocked n card
           unfolding powered change clkFalls unpacked
-          is-clocked = rw (was-high, q, same-rst false r)
+          is-clocked = rw (was-high, q, same-rst r)
 
           pub clk-walks : (u : Halves.Volatile) → clocked n card ≡ withVolatile card u → Goes u
-          clk-walks u there = on-goes u t none-refused (same-vcc true on) (is-clocked ∙ there)
+          clk-walks u there = on-goes t none-refused (same-vcc on) (is-clocked ∙ there)
 
           pub clk-counts : Steps g p n (withHalf g (packed (clocked n card .volatile))) (pin (clocked n card)) 0
           unfolding clocked
           clk-counts =
-              goes-to (clocked n card) (refused-by 0 t none-refused)
-              (next-at (change CLK l) true (t .edge-is) (same-vcc true on) ∙ is-clocked)
+              goes-to (clocked n card) (refused-by t none-refused)
+              (next-at (change CLK l) true (t .edge-is) (same-vcc on) ∙ is-clocked)
 
     module _ (q : w .programming ≡ true) where
       pub clk-refused : high PGM n ≡ true → Steps g p n g p 4
-      clk-refused h =
-          stays 3
-          (refused-by 4 t (clk-refusal l (w .programming) ∙ rw (power-on ready q, clock-high ready q, q, same-pgm true h)))
+      clk-refused h = stays 3 (refused-by t (rw (power-on ready q, clock-high ready q, q, same-pgm h)))
 
       pub clk-programs :
           high PGM n ≡ false → {left : Given} → left ≡ handedBack (programmedCard g n) → Steps g p n left (pinAt left (left .half)) 0
@@ -396,7 +356,7 @@ module _ {g : Given} {p : ℕ} (ready : Ready g p) (n : ℕ) where
       clk-programs h is =
           rw (is, pin-handed-back (programmedCard g n))
           (goes-to (programmedCard g n)
-          (refused-by 0 t (clk-refusal l (w .programming) ∙ rw (power-on ready q, clock-high ready q, q, same-pgm false h)))
+          (refused-by t (rw (power-on ready q, clock-high ready q, q, same-pgm h)))
           (next-at (change CLK l) true (t .edge-is) (power-on ready q) ∙ rw (clock-high ready q, q)))
 
   -- No line: the step is the present levels.

@@ -2,7 +2,7 @@
 use Prim.Native.Nat.{ℕ, _<_}
 use native.Mathlib.Omega.{arith}
 use mathlib.Core.Path.{_≡_, refl, _∙_}
-use mathlib.Core.Bool.{Bool, true, false, not, _&&_, Bool·beq}
+use mathlib.Core.Bool.{Bool, true, false, not, _&&_, _||_, Bool·beq}
 use lib.Dec.{eqb}
 use lib.Bits.{bitAnd}
 use borrow.Author.Tests.{not-true}
@@ -21,9 +21,9 @@ module _ (n : ℕ) where
       masked-test 4 c (λ (x : ℕ). eqb x r) (λ (x : ℕ). g (digit 0 x) (digit 1 x) (digit 2 x) (digit 3 x)) h t n ∙
       rw (digit-low 4 0 n (omega arith), digit-low 4 1 n (omega arith), digit-low 4 2 n (omega arith), digit-low 4 3 n (omega arith))
 
-  pub vcc-clk-pgm : eqb (bitAnd n 13) 13 ≡ (high VCC n && (high CLK n && high PGM n))
+  pub vcc-clk-pgm : eqb (bitAnd n 13) 13 ≡ (high VCC n && (high PGM n && high CLK n))
   unfolding all digit
-  vcc-clk-pgm = by-mask 13 13 (λ vcc rst clk pgm. vcc && (clk && pgm)) (omega arith) refl
+  vcc-clk-pgm = by-mask 13 13 (λ vcc rst clk pgm. vcc && (pgm && clk)) (omega arith) refl
 
   pub vcc-rst : eqb (bitAnd n 3) 1 ≡ (high VCC n && not (high RST n))
   unfolding all digit
@@ -33,9 +33,9 @@ module _ (n : ℕ) where
   unfolding all digit
   vcc-clk = by-mask 5 1 (λ vcc rst clk pgm. vcc && not clk) (omega arith) refl
 
-  pub clk-pgm : eqb (bitAnd n 12) 0 ≡ (not (high CLK n) && not (high PGM n))
+  pub clk-pgm : eqb (bitAnd n 12) 0 ≡ not (high CLK n || high PGM n)
   unfolding all digit
-  clk-pgm = by-mask 12 0 (λ vcc rst clk pgm. not clk && not pgm) (omega arith) refl
+  clk-pgm = by-mask 12 0 (λ vcc rst clk pgm. not (clk || pgm)) (omega arith) refl
 
 -- Two tests that hold; one that holds and another that does not.
 pub both : (a b : Bool) → (a && b) ≡ true → (a ≡ true) × (b ≡ true)

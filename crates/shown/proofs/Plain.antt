@@ -10,11 +10,10 @@ use borrow.Author.Tests.{eqb-true, eqb-false, eq-eqb, ne-eqb, ltb-true, lt-ltb, 
 use Rattle.memory.specs.Image.{digit, bit}
 use Rattle.memory.proofs.Below.{all, below}
 use Rattle.rules.specs.Halves as Halves
-use Rattle.rules.specs.Lines.{CLK}
 use Rattle.rules.specs.Zones.{between, zone}
 use Rattle.rules.specs.Rights.{Held, held, level1, mayRead}
 use Rattle.rules.specs.Match.{compared, following, endsMatch, arrived}
-use Rattle.rules.specs.Steps.{withVolatile, unlatched, clocked, pin}
+use Rattle.rules.specs.Steps.{withVolatile, unlatched, clocked}
 use Rattle.theorems.proofs.Tests.{beq-true, below-then, neither}
 use Rattle.volatile.specs.Packed.{unpacked, Given, cardOf, goneOn}
 use Rattle.volatile.proofs.Between.{over}

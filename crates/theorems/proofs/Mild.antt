@@ -55,8 +55,8 @@ every test = test true && test false
 
 of-every : (test : Bool → Bool) → every test ≡ true → (b : Bool) → test b ≡ true
 unfolding every
-of-every test e true = and-left _ _ e
-of-every test e false = and-right (test true) _ e
+of-every test e true = search and-left
+of-every test e false = search and-right
 
 module _ (p1 r1 e1 mf : Bool) where
   -- What is there without SV.

@@ -23,7 +23,7 @@ use Rattle.rules.specs.Steps.{powered, next}
 use Rattle.rules.specs.Refusals.{edgeRefusal, refusal, anySet, madeUp, stateRefusal}
 use Rattle.rules.specs.Demands.{Sound-stays-sound}
 use Rattle.theorems.proofs.ZoneCases.{addressed}
-use Rattle.theorems.proofs.Tests.{cond-cases, peel, neither, guarded, all, below₂, Moved, edge-rises, edge-falls}
+use Rattle.theorems.proofs.Tests.{cond-cases, peel, neither, guarded, all, below₂, Moved, edge-moves}
 
 -- Where match may hold, and E1.
 unfoldable pub mayMatch : ℕ → Bool
@@ -241,10 +241,10 @@ module _ (c : Card) (n : ℕ) (s : SoundCard c) (small : n < 64) where
   lasting w h = record { sized = s .sized; fused = s .fused; half = h }
 
   abbrev rose : (x : Line) → edge now n ≡ Rises x → Moved x false now n
-  rose x e = edge-rises x now n (s .half .levels) small e
+  rose x e = edge-moves false x now n (s .half .levels) small e
 
   abbrev fell : (x : Line) → edge now n ≡ Falls x → Moved x true now n
-  fell x e = edge-falls x now n (s .half .levels) small e
+  fell x e = edge-moves true x now n (s .half .levels) small e
 
   -- With VCC on, 9 asks for no more than its clauses on lines and address.
   on-sound :

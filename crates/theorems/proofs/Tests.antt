@@ -1,10 +1,10 @@
 -- Laws on tests: what a true or a false one tells, a computed test over a range of numbers read at an index, and what an edge says of
 -- the levels before and after it.
-use Prim.Native.Nat.{ℕ, zero, suc, _<_}
-use mathlib.Core.Path.{_≡_, refl, subst}
-use mathlib.Core.Bool.{Bool, true, false, cond, not, _&&_, _||_, Bool·beq, false≢true, true≢false}
+use Prim.Native.Nat.{ℕ, suc, _<_}
+use mathlib.Core.Path.{_≡_, refl}
+use mathlib.Core.Bool.{Bool, true, false, cond, not, _&&_, _||_, Bool·beq, true≢false}
 use native.Mathlib.Omega.{arith}
-use lib.Dec.{eqb, lit<}
+use lib.Dec.{eqb}
 use borrow.Author.Tests.{eqb-true}
 use Rattle.memory.specs.Image.{digit}
 unfoldable pub use Rattle.memory.proofs.Below.{all}
@@ -31,8 +31,8 @@ guarded false b f = refl
 
 pub beq-true : (a b : Bool) → Bool·beq a b ≡ true → a ≡ b
 beq-true true true e = refl
-beq-true true false e = absurd (false≢true e)
-beq-true false true e = absurd (false≢true e)
+beq-true true false e = cc
+beq-true false true e = e
 beq-true false false e = refl
 
 -- `below` of a test that stands for an implication.
@@ -45,39 +45,18 @@ pub below₂ :
     (j k : ℕ) (test : ℕ → ℕ → Bool) → all j (λ a. all k (test a)) ≡ true → (a b : ℕ) → a < j → b < k → test a b ≡ true
 below₂ j k test e a b p q = below k (test a) (below j (λ x. all k (test x)) e a p) b q
 
--- The line in a place.
-unfoldable pub line : ℕ → Line
-line zero = VCC
-line (suc zero) = RST
-line (suc (suc zero)) = CLK
-line (suc (suc (suc zero))) = PGM
-line (suc (suc (suc (suc zero)))) = IO
-line (suc (suc (suc (suc (suc k))))) = FUS
-
 -- The test holds at each line.
-unfoldable allLines : (Line → Bool) → Bool
-unfolding line all
-allLines test = all 6 (λ k. test (line k))
+unfoldable pub allLines : (Line → Bool) → Bool
+allLines test = test VCC && (test RST && (test CLK && (test PGM && (test IO && test FUS))))
 
-each-line : (test : Line → Bool) → allLines test ≡ true → (x : Line) → test x ≡ true
-unfolding allLines line place
-each-line test e x = subst (λ (y : Line). test y ≡ true) (of-place x) (below 6 (λ k. test (line k)) e (place x) (in-place x))
-  where
-    of-place : (y : Line) → line (place y) ≡ y
-    of-place VCC = refl
-    of-place RST = refl
-    of-place CLK = refl
-    of-place PGM = refl
-    of-place IO = refl
-    of-place FUS = refl
-
-    in-place : (y : Line) → place y < 6
-    in-place VCC = lit< tt
-    in-place RST = lit< tt
-    in-place CLK = lit< tt
-    in-place PGM = lit< tt
-    in-place IO = lit< tt
-    in-place FUS = lit< tt
+pub each-line : (test : Line → Bool) → allLines test ≡ true → (x : Line) → test x ≡ true
+unfolding allLines
+each-line test e VCC = search and-left
+each-line test e RST = search (and-left, and-right)
+each-line test e CLK = search (and-left, and-right)
+each-line test e PGM = search (and-left, and-right)
+each-line test e IO = search (and-left, and-right)
+each-line test e FUS = search (and-left, and-right)
 
 -- The line x, and no other, was turned over: it was high before where `was`.
 pub record Moved (x : Line) (was : Bool) (levels n : ℕ) : Type 0 where
@@ -109,25 +88,18 @@ moved-alone : (x : Line) (was : Bool) (levels n : ℕ) → movedAlone x was leve
 unfolding movedAlone keeps
 moved-alone x was levels n e =
     record {
-      before = beq-true (high x levels) was (and-left _ _ e);
-      after = beq-true (high x n) (not was) (and-left _ _ rest);
-      others = λ y d. beq-true (high y n) (high y levels) (rw d at (each-line (keeps x levels n) kept y));
+      before = search (and-left, beq-true);
+      after = search (and-left, and-right, beq-true);
+      others = λ y d. beq-true (high y n) (high y levels) (rw d at (each-line (keeps x levels n) (search and-right) y));
     }
-  where
-    rest : (Bool·beq (high x n) (not was) && allLines (keeps x levels n)) ≡ true
-    rest = and-right (Bool·beq (high x levels) was) _ e
-
-    kept : allLines (keeps x levels n) ≡ true
-    kept = and-right (Bool·beq (high x n) (not was)) _ rest
 
 pub edge-same : (levels n : ℕ) → levels < 64 → n < 64 → edge levels n ≡ Same → n ≡ levels
 unfolding says
 edge-same levels n l k e = eqb-true n levels (rw e at (every-edge levels n l k))
 
-pub edge-rises : (x : Line) (levels n : ℕ) → levels < 64 → n < 64 → edge levels n ≡ Rises x → Moved x false levels n
+pub edge-moves :
+    (was : Bool) (x : Line) (levels n : ℕ) → levels < 64 → n < 64 → edge levels n ≡ cond was (Falls x) (Rises x) →
+    Moved x was levels n
 unfolding says
-edge-rises x levels n l k e = moved-alone x false levels n (rw e at (every-edge levels n l k))
-
-pub edge-falls : (x : Line) (levels n : ℕ) → levels < 64 → n < 64 → edge levels n ≡ Falls x → Moved x true levels n
-unfolding says
-edge-falls x levels n l k e = moved-alone x true levels n (rw e at (every-edge levels n l k))
+edge-moves true x levels n l k e = moved-alone x true levels n (rw e at (every-edge levels n l k))
+edge-moves false x levels n l k e = moved-alone x false levels n (rw e at (every-edge levels n l k))

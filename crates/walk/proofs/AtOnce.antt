@@ -3,14 +3,14 @@ use Prim.Native.Nat.{ℕ, _+_, _/_, _≤_, _<_}
 use native.Mathlib.Omega.{arith}
 use mathlib.Core.Path.{_≡_, refl, sym, ap, _∙_}
 use mathlib.Core.Bool.{Bool, true, false, cond, not, _&&_, _||_, and-false}
-use lib.Dec.{eqb, ltb, leb}
+use lib.Dec.{eqb, ltb}
 use lib.ListN.{length}
 use lib.Bits.{bitAnd, bitXor, xor-comm, and-le-r}
 use borrow.Author.Tests.{eqb-true, eq-eqb, ne-eqb, ltb-true, lt-ltb, le-ltb, leb-true, le-leb, lt-leb, not-true}
 use Rattle.memory.specs.Image.{bytes, digit, bit}
 use Rattle.memory.proofs.Below.{all, and-left, and-right}
 use Rattle.rules.specs.Halves as Halves
-use Rattle.rules.specs.Lines.{CLK, VCC, PGM, place, high}
+use Rattle.rules.specs.Lines.{CLK, VCC, PGM, place, mask, high}
 use Rattle.rules.specs.Zones.{zone}
 use Rattle.rules.specs.Rights.{held, mayRead}
 use Rattle.rules.specs.Steps.{clkRises, withVolatile, next, driven, pinValue, pin}
@@ -26,8 +26,7 @@ use Rattle.walk.specs.declared.Walked.{Walked}
 use Rattle.volatile.specs.Inner.{Ready, Steps}
 use Rattle.walk.specs.Contracts.{calm, walkedTo, walks, walkTo, noWalk, walkOf}
 use Rattle.walk.specs.Inside.{walkedHalf, Calm}
-use Rattle.rules.specs.Lines.{change}
-use Rattle.edge_laws.proofs.Turned.{Turned, small-step, by-difference, turned-by}
+use Rattle.edge_laws.proofs.Turned.{Turned, small-step, turned-by}
 use Rattle.edge_laws.proofs.ByLine.{Goes, goes-to, clk-rises, clk-walks}
 use Rattle.shown.proofs.Plain.{plain-clocked}
 
@@ -60,18 +59,7 @@ still-byte n h e =
 
 still : (n : ℕ) → n < 256 → bitAnd n 203 ≡ 1 → Still n
 unfolding high place
-still n h e =
-    let a = still-byte n h e in
-    let b = and-right (ltb n 64) _ a in
-    let c = and-right (eqb (bitAnd n 11) 1) _ b in
-    let d = and-right (digit 0 n) _ c in
-    record {
-      small = ltb-true n 64 (and-left (ltb n 64) _ a);
-      ready-lines = eqb-true (bitAnd n 11) 1 (and-left (eqb (bitAnd n 11) 1) _ b);
-      vcc = and-left (digit 0 n) _ c;
-      rst = not-true (digit 1 n) (and-left (not (digit 1 n)) _ d);
-      pgm = not-true (digit 3 n) (and-right (not (digit 1 n)) _ d);
-    }
+still n h e = let a = still-byte n h e in search (and-left, and-right, ltb-true, eqb-true, not-true) depth 7
 
 -- The flags of a walk stand with these levels, and no programming is under way.
 unfoldable flags-calm : ℕ → ℕ → Bool
@@ -113,8 +101,8 @@ module _ {g : Given} {n : ℕ} (c : Calm g n) where
   plain-flags = and-right (eqb (bitXor l n) 4) _ (c .turns)
 
   t : Turned CLK l n
-  unfolding by-difference change
-  t = turned-by CLK l n 4 small clock-alone (omega arith) refl
+  unfolding mask place
+  t = turned-by CLK l n small clock-alone
 
   calm-here : flags-calm l flags ≡ true
   unfolding flags-calm high place
@@ -192,21 +180,7 @@ module _ {g : Given} {n : ℕ} (c : Calm g n) where
 module _ (g : Given) (n : ℕ) where
   all-pass : n < 256 → walks g n ≡ true → Calm g n × (plainAt (walkedTo (g .half .address) n) ≡ true)
   unfolding walks
-  all-pass byte e =
-      let a = and-right (eqb (bitAnd n 203) 1) _ e in
-      let b = and-right (calm (g .half) n) _ a in
-      let d = and-right (ltb (g .half .address) 1519) _ b in
-      let f = and-right (eqb (length (g .memory)) bytes) _ d in (
-        record {
-          byte = byte;
-          still = eqb-true (bitAnd n 203) 1 (and-left (eqb (bitAnd n 203) 1) _ e);
-          turns = and-left (calm (g .half) n) _ a;
-          address = ltb-true (g .half .address) 1519 (and-left (ltb (g .half .address) 1519) _ b);
-          sized = eqb-true (length (g .memory)) bytes (and-left (eqb (length (g .memory)) bytes) _ d);
-          fused = leb-true (g .fuses) 7 (and-left (leb (g .fuses) 7) _ f);
-        },
-        and-right (leb (g .fuses) 7) _ f,
-      )
+  all-pass byte e = search (and-left, and-right, eqb-true, ltb-true, leb-true)
 
   -- A walk's half and pin are the step's.
   pub walk-steps :
