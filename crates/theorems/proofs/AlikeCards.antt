@@ -1,18 +1,17 @@
 -- Demand 3's invariant: what two cards that have not opened have in common, through every step, and that the pin shows no more.
 use Prim.Native.Nat.{ℕ}
 use mathlib.Core.Path.{_≡_, refl, ap, _∙_}
-use mathlib.Core.Bool.{Bool, true, false, cond, not, _&&_, _||_}
+use mathlib.Core.Bool.{Bool, true, false, cond, not, _&&_, and-false}
 use mathlib.Core.List.{List}
-use lib.Dec.{eqb}
 use lib.ListN.{length}
 use Rattle.memory.specs.Image.{bit}
-use Rattle.rules.specs.Halves.{Volatile, Card, off}
+use Rattle.rules.specs.Halves.{Card, off}
 use Rattle.rules.specs.Lines.{VCC, RST, PGM, high}
 use Rattle.rules.specs.Zones.{between, zone}
 use Rattle.rules.specs.Rights.{Held, held, level1}
 use Rattle.rules.specs.Programming.{operationNow, memoryAfter}
 use Rattle.rules.specs.Match.{following, arrived}
-use Rattle.rules.specs.Steps.{follows, withVolatile, vccFalls, clkRises, rstFalls, programmed, unlatched, clocked, driven, pin}
+use Rattle.rules.specs.Steps.{follows, vccFalls, clkRises, rstFalls, programmed, unlatched, clocked, driven, pin}
 use Rattle.rules.specs.Demands.{hidden, ZonesKept}
 use Rattle.theorems.proofs.Tests.{and-right}
 use Rattle.theorems.proofs.StepCases.{Way, Keeps, Follows, Latches, SwitchesOff, Resets, Programs, Unlatches, Clocks}
@@ -43,13 +42,9 @@ module _ (s : Card) (unreadable : bit (s .memory) 177 ≡ false) (c : Card) (n :
   unfolding clocked arrived unlatched hidden between
   closed-clocked =
       record {
-        unread = rw (p .zones 177 refl, unreadable, p .unread) (go (eqb (following (c .volatile .address)) 177));
+        unread = simp (p .zones 177 refl, unreadable, p .unread, and-false);
         zones = p .zones;
       }
-    where
-      go : (t : Bool) → (t && false || false) ≡ false
-      go true = refl
-      go false = refl
 
   closed-programmed : Closed s (programmed (operationOf c) n c)
   unfolding programmed operationNow held
@@ -62,12 +57,12 @@ module _ (s : Card) (unreadable : bit (s .memory) 177 ≡ false) (c : Card) (n :
   pub closed-moved : (w : Way) → Closed s (moved w n c)
   unfolding moved follows clkRises vccFalls off rstFalls unlatched arrived
   closed-moved Keeps = p
-  closed-moved Follows = record { unread = p .unread; zones = p .zones }
-  closed-moved Latches = record { unread = p .unread; zones = p .zones }
-  closed-moved SwitchesOff = record { unread = refl; zones = p .zones }
-  closed-moved Resets = record { unread = p .unread; zones = p .zones }
+  closed-moved Follows = search
+  closed-moved Latches = search
+  closed-moved SwitchesOff = search
+  closed-moved Resets = search
   closed-moved Programs = closed-programmed
-  closed-moved Unlatches = record { unread = p .unread; zones = p .zones }
+  closed-moved Unlatches = search
   closed-moved Clocks = closed-clocked
 
 -- Without SV the operation is one of level, RST, latch and zone alone.
@@ -111,31 +106,16 @@ module _ (c c′ : Card) (shut : Unopened-card c) (shut′ : Unopened-card c′)
           memoryAfter (operationOf c′) (c′ .volatile .address) (c′ .memory)
       moved-same = cc same-operation
 
-  -- Memory and fuses stay.
-  still :
-      (v v′ : Volatile) → v .lines ≡ v′ .lines → v .address ≡ v′ .address → v .latch ≡ v′ .latch → v .programming ≡ v′ .programming →
-      Alike-cards (withVolatile c v) (withVolatile c′ v′)
-  still v v′ lines address latch programming =
-      record {
-        lines = lines;
-        address = address;
-        latch = latch;
-        programming = programming;
-        fuses = p .fuses;
-        sized = p .sized;
-        outside = p .outside;
-      }
-
   pub alike-moved : (n : ℕ) (w : Way) → Alike-cards (moved w n c) (moved w n c′)
   unfolding moved follows clkRises vccFalls off rstFalls unlatched arrived clocked
   alike-moved n Keeps = p
-  alike-moved n Follows = still (follows n (c .volatile)) (follows n (c′ .volatile)) refl (p .address) (p .latch) (p .programming)
-  alike-moved n Latches = still (clkRises n (c .volatile)) (clkRises n (c′ .volatile)) refl (p .address) refl refl
-  alike-moved n SwitchesOff = still (off n) (off n) refl refl refl refl
-  alike-moved n Resets = still _ _ refl refl (p .latch) (p .programming)
+  alike-moved n Follows = search
+  alike-moved n Latches = search
+  alike-moved n SwitchesOff = search
+  alike-moved n Resets = search
   alike-moved n Programs = alike-programmed n
-  alike-moved n Unlatches = still _ _ refl (p .address) refl refl
-  alike-moved n Clocks = still _ _ refl (ap following (p .address)) refl refl
+  alike-moved n Unlatches = search
+  alike-moved n Clocks = let next = ap following (p .address) in search
 
 -- The pin of a card with SV and R1 0, of what may be known of it.
 unfoldable seenPin : ℕ → Bool → ℕ → Bool → ℕ

@@ -1,6 +1,6 @@
 -- Demand 3: "Before the step at which either opens, their pin answers and refusals are equal and those three zones keep every bit."
 use Prim.Native.Nat.{ℕ, suc, _≤_}
-use mathlib.Core.Path.{_≡_, refl, sym, ap, subst, _∙_}
+use mathlib.Core.Path.{_≡_, refl, sym, ap, _∙_}
 use mathlib.Core.Bool.{Bool, true, false, cond, not}
 use mathlib.Core.List.{List, [], _∷_}
 use native.Mathlib.Omega.{arith}
@@ -16,8 +16,7 @@ use Rattle.rules.specs.Card.{Ran, stepped, answered, checkedStep, run, checkedR
 use Rattle.rules.specs.Demands.{Concealed, Alike, after, answers, Unopened, ZonesKept, Hidden-before-opening}
 use Rattle.rules.specs.Demands.{UnopenedRun, Hidden-in-a-run}
 use Rattle.theorems.proofs.Tests.{peel}
-use Rattle.theorems.proofs.StepCases.{Way}
-use Rattle.theorems.proofs.StepCases.{moved, way, step-cases, same-way, same-refusal, accepted}
+use Rattle.theorems.proofs.StepCases.{way, stepped-moves, same-way, same-refusal, accepted}
 use Rattle.theorems.proofs.CheckedSteps.{Passes, fresh-passes, passes-on, checked-step, checked-answer}
 use Rattle.theorems.proofs.AlikeCards.{Closed, Alike-cards, Unopened-card, closed-moved, alike-moved, cond-both, same-pin}
 
@@ -48,7 +47,7 @@ module _ (s : Card) (start : Concealed s) where
   held-on c n shut p =
       record {
         passes = passes-on c n (p .passes);
-        closed = step-cases (Closed s) c n (closed-moved s (start .unreadable) c n shut (p .closed) (way (c .volatile) n));
+        closed = rw (stepped-moves c n) (closed-moved s (start .unreadable) c n shut (p .closed) (way (c .volatile) n));
       }
 
 module _ (s s′ : Card) (start : Alike s s′) where
@@ -57,49 +56,42 @@ module _ (s s′ : Card) (start : Alike s s′) where
     other : Held-back s′ c′
     alike : Alike-cards c c′
 
-  two-stepped :
-      (c c′ : Card) (n : ℕ) → Unopened-card c → Unopened-card c′ → Two c c′ → Two (stepped c n) (stepped c′ n)
-  two-stepped c c′ n shut shut′ p =
-      record {
-        one = held-on s (start .concealed) c n shut (p .one);
-        other = held-on s′ (start .concealed′) c′ n shut′ (p .other);
-        alike =
-            step-cases (λ (x : Card). Alike-cards x (stepped c′ n)) c n
-            (step-cases (λ (x : Card). Alike-cards (moved w n c) x) c′ n
-            (subst (λ (u : Way). Alike-cards (moved w n c) (moved u n c′))
-            (same-way (c .volatile) (c′ .volatile) n (p .alike .lines) (p .alike .programming))
-            (alike-moved c c′ shut shut′ (p .alike) n w)));
-      }
-    where
-      w : Way
-      w = way (c .volatile) n
+  module _ (c c′ : Card) (n : ℕ) (shut : Unopened-card c) (shut′ : Unopened-card c′) (p : Two c c′) where
+    two-stepped : Two (stepped c n) (stepped c′ n)
+    two-stepped =
+        record {
+          one = held-on s (start .concealed) c n shut (p .one);
+          other = held-on s′ (start .concealed′) c′ n shut′ (p .other);
+          alike =
+              rw (
+                stepped-moves c n,
+                stepped-moves c′ n,
+                ← same-way (c .volatile) (c′ .volatile) n (p .alike .lines) (p .alike .programming),
+              )
+              (alike-moved c c′ shut shut′ (p .alike) n (way (c .volatile) n));
+        }
 
-  module _ (c c′ : Card) (n : ℕ) (p : Two c c′) where
     refused-alike : refusal (c .volatile) n ≡ refusal (c′ .volatile) n
     refused-alike = same-refusal (c .volatile) (c′ .volatile) n (p .alike .lines) (p .alike .programming)
 
     -- An accepted step of the one is one of the other.
-    next-two :
-        Unopened-card c → Unopened-card c′ → refusal (c .volatile) n ≡ 0 → Two (next c n) (next c′ n)
-    next-two shut shut′ e =
-        rw (accepted c n e, accepted c′ n (sym refused-alike ∙ e)) at (two-stepped c c′ n shut shut′ p)
+    module _ (e : refusal (c .volatile) n ≡ 0) where
+      next-two : Two (next c n) (next c′ n)
+      next-two = rw (accepted c n e, accepted c′ n (sym refused-alike ∙ e)) at two-stepped
 
-    next-pins :
-        Unopened-card c → Unopened-card c′ → refusal (c .volatile) n ≡ 0 → Unopened-card (next c n) → Unopened-card (next c′ n) →
-        pin (next c n) ≡ pin (next c′ n)
-    next-pins shut shut′ e later later′ =
-        let q = next-two shut shut′ e in
-        same-pin (next c n) (next c′ n) later later′ (q .one .closed .unread) (q .other .closed .unread) (q .alike)
+      next-pins : Unopened-card (next c n) → Unopened-card (next c′ n) → pin (next c n) ≡ pin (next c′ n)
+      next-pins later later′ =
+          let q = next-two in
+          same-pin (next c n) (next c′ n) later later′ (q .one .closed .unread) (q .other .closed .unread) (q .alike)
 
-    same-answer :
-        Unopened-card c → Unopened-card c′ → Unopened-card (stepped c n) → Unopened-card (stepped c′ n) → answered c n ≡ answered c′ n
+    same-answer : Unopened-card (stepped c n) → Unopened-card (stepped c′ n) → answered c n ≡ answered c′ n
     unfolding answered stepped
-    same-answer shut shut′ later later′ =
+    same-answer later later′ =
         rw (← refused-alike)
         (cond-both (_≡_ {A = Answer}) (eqb (refusal (c .volatile) n) 0)
         (λ t.
         let e = eqb-true (refusal (c .volatile) n) 0 t in
-        ap Pin (next-pins shut shut′ e (rw e at later) (rw (sym refused-alike ∙ e) at later′)))
+        ap Pin (next-pins e (rw e at later) (rw (sym refused-alike ∙ e) at later′)))
         (λ _. refl))
 
   record Indistinct (c c′ : Card) (ns : List ℕ) : Type 0 where
@@ -109,7 +101,7 @@ module _ (s s′ : Card) (start : Alike s s′) where
 
   indistinct : (c c′ : Card) (ns : List ℕ) → Two c c′ → Unopened c ns → Unopened c′ ns → Indistinct c c′ ns
   unfolding Unopened answers after
-  indistinct c c′ [] p u u′ = record { same = refl; kept = p .one .closed .zones; kept′ = p .other .closed .zones }
+  indistinct c c′ [] p u u′ = search
   indistinct c c′ (n ∷ ns) p u u′ =
       let one = checked-step c n (p .one .passes) in
       let one′ = checked-step c′ n (p .other .passes) in
@@ -120,7 +112,7 @@ module _ (s s′ : Card) (start : Alike s s′) where
             cc (
               checked-answer c n (p .one .passes),
               checked-answer c′ n (p .other .passes),
-              same-answer c c′ n p (u 0) (u′ 0) (rw one at (u 1)) (rw one′ at (u′ 1)),
+              same-answer c c′ n (u 0) (u′ 0) p (rw one at (u 1)) (rw one′ at (u′ 1)),
               rest .same,
             );
         kept = rest .kept;
@@ -135,22 +127,22 @@ module _ (s s′ : Card) (start : Alike s s′) where
 
   indistinct-runs : (c c′ : Card) (ns : List ℕ) → Two c c′ → Unopened-in c ns → Unopened-in c′ ns → Indistinct-runs (run c ns) (run c′ ns)
   unfolding run
-  indistinct-runs c c′ [] p u u′ = record { same = refl; refused = refl; kept = p .one .closed .zones; kept′ = p .other .closed .zones }
+  indistinct-runs c c′ [] p u u′ = search
   indistinct-runs c c′ (n ∷ ns) p u u′ =
-      rw (← (refused-alike c c′ n p))
+      rw (← (refused-alike c c′ n (u 0) (u′ 0) p))
       (cond-both Indistinct-runs (eqb (refusal (c .volatile) n) 0)
       (λ t.
       let e = eqb-true (refusal (c .volatile) n) 0 t in
       let v = unopened-tail c n ns e u in
-      let v′ = unopened-tail c′ n ns (sym (refused-alike c c′ n p) ∙ e) u′ in
-      let rest = indistinct-runs (next c n) (next c′ n) ns (next-two c c′ n p (u 0) (u′ 0) e) v v′ in
+      let v′ = unopened-tail c′ n ns (sym (refused-alike c c′ n (u 0) (u′ 0) p) ∙ e) u′ in
+      let rest = indistinct-runs (next c n) (next c′ n) ns (next-two c c′ n (u 0) (u′ 0) p e) v v′ in
       record {
-        same = cc (next-pins c c′ n p (u 0) (u′ 0) e (v 0) (v′ 0), rest .same);
+        same = cc (next-pins c c′ n (u 0) (u′ 0) p e (v 0) (v′ 0), rest .same);
         refused = rest .refused;
         kept = rest .kept;
         kept′ = rest .kept′;
       })
-      (λ _. record { same = refl; refused = refl; kept = p .one .closed .zones; kept′ = p .other .closed .zones }))
+      (λ _. search))
 
   first-two : Two s s′
   first-two =
@@ -175,7 +167,7 @@ module _ (s s′ : Card) (start : Alike s s′) where
 pub hidden-before-opening : Hidden-before-opening
 hidden-before-opening c c′ ns start u u′ =
     let r = indistinct c c′ start c c′ ns (first-two c c′ start) u u′ in
-    record { same = r .same; kept = r .kept; kept′ = r .kept′ }
+    search
 
 -- What refuses no run of k steps refuses none of fewer.
 fewer-steps : (c : Card) (room j k : ℕ) → j ≤ k → runRefusal c k room ≡ 0 → runRefusal c j room ≡ 0

@@ -179,19 +179,20 @@ mild-operation h ec-en rst latch a e =
     (effect-mild (h .p1) (h .r1) (h .e1) (h .mf) (h .fus) (h .iss) (zone a) latch))
 
 -- What holds of each of these holds of an operation without SV.
-mild-cases :
-    (P : Operation → Type 0) (a : ℕ) (op : Operation) → mild op (zone a) ≡ true → P Nothing → (hidden a ≡ false → P WriteBit) →
-    (a / 16 ≡ 85 → P EraseWord) → P BlowECEN → P op
-unfolding mild
-mild-cases P a Nothing e nothing writes erases blows = nothing
-mild-cases P a WriteBit e nothing writes erases blows = writes (readable-seen a e)
-mild-cases P a EraseWord e nothing writes erases blows = erases (mtz-word a e)
-mild-cases P a EraseZone e nothing writes erases blows = absurd (false≢true e)
-mild-cases P a WriteBlock e nothing writes erases blows = absurd (false≢true e)
-mild-cases P a EraseBlock e nothing writes erases blows = absurd (false≢true e)
-mild-cases P a BlowMF e nothing writes erases blows = absurd (false≢true e)
-mild-cases P a BlowECEN e nothing writes erases blows = blows
-mild-cases P a BlowISS e nothing writes erases blows = absurd (false≢true e)
+module _
+    (P : Operation → Type 0) (a : ℕ) (nothing : P Nothing) (writes : hidden a ≡ false → P WriteBit)
+    (erases : a / 16 ≡ 85 → P EraseWord) (blows : P BlowECEN) where
+  mild-cases : (op : Operation) → mild op (zone a) ≡ true → P op
+  unfolding mild
+  mild-cases Nothing e = nothing
+  mild-cases WriteBit e = writes (readable-seen a e)
+  mild-cases EraseWord e = erases (mtz-word a e)
+  mild-cases EraseZone e = absurd (false≢true e)
+  mild-cases WriteBlock e = absurd (false≢true e)
+  mild-cases EraseBlock e = absurd (false≢true e)
+  mild-cases BlowMF e = absurd (false≢true e)
+  mild-cases BlowECEN e = blows
+  mild-cases BlowISS e = absurd (false≢true e)
 
 -- The hidden zones lie below the MTZ.
 hidden-below : (b : ℕ) → hidden b ≡ true → b < 1360
@@ -210,7 +211,8 @@ module _ (h : Held) (ec-en rst latch : Bool) (a : ℕ) (shut : h .sv ≡ false) 
   op = operation h ec-en rst latch a
 
   cases : (P : Operation → Type 0) → P Nothing → (hidden a ≡ false → P WriteBit) → (a / 16 ≡ 85 → P EraseWord) → P BlowECEN → P op
-  cases P = mild-cases P a op (mild-operation h ec-en rst latch a shut)
+  cases P nothing writes erases blows =
+      mild-cases P a nothing writes erases blows op (mild-operation h ec-en rst latch a shut)
 
   pub mild-length : (m : List ℕ) → length (memoryAfter op a m) ≡ length m
   unfolding memoryAfter

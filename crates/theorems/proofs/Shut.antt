@@ -1,6 +1,6 @@
 -- Demand 3: "A card that is switched off with no try left never opens, whatever steps and power cuts follow."
 use Prim.Native.Nat.{ℕ}
-use mathlib.Core.Path.{_≡_, refl, ap}
+use mathlib.Core.Path.{_≡_, ap}
 use mathlib.Core.Bool.{true, false}
 use native.Mathlib.Omega.{arith}
 use lib.Dec.{eqb}
@@ -17,7 +17,7 @@ use Rattle.rules.specs.Card.{Ran, stepped, checkedRun}
 use Rattle.rules.specs.Demands.{NoTryLeft, Shut-for-good, Shut-in-a-run}
 use Rattle.theorems.proofs.Tests.{cond-cases}
 use Rattle.theorems.proofs.StepCases.{Way, Keeps, Follows, Latches, SwitchesOff, Resets, Programs, Unlatches, Clocks}
-use Rattle.theorems.proofs.StepCases.{moved, way, operationOf, step-cases, after-keeps, run-keeps}
+use Rattle.theorems.proofs.StepCases.{moved, way, operationOf, stepped-moves, after-keeps, run-keeps}
 use Rattle.theorems.proofs.Between.{bounds}
 use Rattle.theorems.proofs.Mild.{mild-keeps-zeros, mild-shuts}
 
@@ -38,16 +38,16 @@ shut-programmed c n p =
 shut-moved : (c : Card) (n : ℕ) → Shut c → (w : Way) → Shut (moved w n c)
 unfolding moved follows clkRises vccFalls off rstFalls unlatched clocked arrived
 shut-moved c n p Keeps = p
-shut-moved c n p Follows = record { unopened = p .unopened; spent = p .spent }
-shut-moved c n p Latches = record { unopened = p .unopened; spent = p .spent }
-shut-moved c n p SwitchesOff = record { unopened = refl; spent = p .spent }
-shut-moved c n p Resets = record { unopened = p .unopened; spent = p .spent }
+shut-moved c n p Follows = search
+shut-moved c n p Latches = search
+shut-moved c n p SwitchesOff = search
+shut-moved c n p Resets = search
 shut-moved c n p Programs = shut-programmed c n p
-shut-moved c n p Unlatches = record { unopened = p .unopened; spent = p .spent }
-shut-moved c n p Clocks = record { unopened = p .unopened; spent = p .spent }
+shut-moved c n p Unlatches = search
+shut-moved c n p Clocks = search
 
 shut-stepped : (c : Card) (n : ℕ) → Shut c → Shut (stepped c n)
-shut-stepped c n p = step-cases Shut c n (shut-moved c n p (way (c .volatile) n))
+shut-stepped c n p = rw (stepped-moves c n) (shut-moved c n p (way (c .volatile) n))
 
 no-try-left : (c : Card) (levels : ℕ) → NoTryLeft c levels → Shut c
 unfolding off

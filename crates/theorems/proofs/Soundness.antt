@@ -1,7 +1,7 @@
 -- 01: "A state that 9 lets pass never leads to one that 9 refuses." By cases on the edge.
 use Prim.Native.Nat.{ℕ, zero, suc, _≤_, _<_, _/_}
 use mathlib.Core.Path.{_≡_, refl, ap, _∙_}
-use mathlib.Core.Bool.{Bool, true, false, cond, not, _&&_, _||_, false≢true, true≢false, and-false, or-true}
+use mathlib.Core.Bool.{Bool, true, false, cond, not, _&&_, _||_, true≢false, and-false, or-true}
 use mathlib.Core.List.{List}
 use native.Mathlib.Omega.{arith}
 use lib.Dec.{eqb, leb, ltb}
@@ -122,20 +122,11 @@ passes c s =
 -- Nothing is latched and no programming is under way, VCC or CLK being low.
 idle-wired : (n : ℕ) → (high VCC n ≡ true → high CLK n ≡ false) → Wired n false false
 idle-wired n e =
-    record {
-      latched = λ q. absurd (false≢true q);
-      under-way = λ q. absurd (false≢true q);
-      started = λ x y z. cc (e x);
-    }
+    record { latched = λ q. cc; under-way = λ q. cc; started = λ x y z. cc (e x) }
 
 -- Address 0, where match and E1 have ended.
 at-zero : Placed 0 false false
-at-zero =
-    record {
-      within = omega arith;
-      matching = λ q. absurd (false≢true q);
-      e1-held = λ q. absurd (false≢true q);
-    }
+at-zero = record { within = omega arith; matching = λ q. cc; e1-held = λ q. cc }
 
 -- A flag that comes up where t, and else stays.
 set-or-kept : (t x flag may : Bool) → (t && x || flag) ≡ true → (flag ≡ true → may ≡ true) → (t || may) ≡ true
@@ -144,7 +135,7 @@ set-or-kept false x flag may e f = f e
 
 -- A flag that ends where t, and else stays.
 ended-or-kept : (t flag may : Bool) → (not t && flag) ≡ true → (flag ≡ true → (t || may) ≡ true) → may ≡ true
-ended-or-kept true flag may e f = absurd (false≢true e)
+ended-or-kept true flag may e f = cc
 ended-or-kept false flag may e f = f e
 
 -- Match after the compare.
@@ -209,15 +200,15 @@ record Lasting (op : Operation) (a : ℕ) (m : List ℕ) (f : ℕ) : Type 0 wher
 
 programmed-lasting : (op : Operation) (a : ℕ) (m : List ℕ) (f : ℕ) → f ≤ 7 → Lasting op a m f
 unfolding memoryAfter fusesAfter blown
-programmed-lasting Nothing a m f h = record { sized = refl; fused = h }
-programmed-lasting WriteBit a m f h = record { sized = length-written m a; fused = h }
-programmed-lasting EraseWord a m f h = record { sized = length-erased m a; fused = h }
-programmed-lasting EraseZone a m f h = record { sized = length-filled 22 128 255 m; fused = h }
-programmed-lasting WriteBlock a m f h = record { sized = length-filled 2 168 0 m; fused = h }
-programmed-lasting EraseBlock a m f h = record { sized = length-filled 2 168 255 m; fused = h }
-programmed-lasting BlowMF a m f h = record { sized = refl; fused = omega (arith, cleared-le 0 f) }
-programmed-lasting BlowECEN a m f h = record { sized = refl; fused = omega (arith, cleared-le 1 f) }
-programmed-lasting BlowISS a m f h = record { sized = refl; fused = omega (arith, cleared-le 2 f) }
+programmed-lasting Nothing a m f h = search
+programmed-lasting WriteBit a m f h = search length-written
+programmed-lasting EraseWord a m f h = search length-erased
+programmed-lasting EraseZone a m f h = search length-filled
+programmed-lasting WriteBlock a m f h = search length-filled
+programmed-lasting EraseBlock a m f h = search length-filled
+programmed-lasting BlowMF a m f h = let less = cleared-le 0 f in search arith
+programmed-lasting BlowECEN a m f h = let less = cleared-le 1 f in search arith
+programmed-lasting BlowISS a m f h = let less = cleared-le 2 f in search arith
 
 -- 7 keeps VCC down while CLK or PGM is high.
 unready : ℕ → ℕ → Bool
@@ -391,15 +382,9 @@ module _ (c : Card) (n : ℕ) (s : SoundCard c) (small : n < 64) where
 pub sound-stays-sound : Sound-stays-sound
 unfolding refusal next
 sound-stays-sound c n e r =
+    let p = peel (ltb 63 n) 0 _ r in
+    let s = let-pass c e in
+    let small : n < 64 = omega (arith, ltb-false 63 n (p .0)) in
     passes (next c n)
     (cond-cases SoundCard (high VCC (c .volatile .lines)) (λ on. by-edge c n s small on (edge (c .volatile .lines) n) refl (p .1))
     (λ o. unpowered-follow c n s small (p .1) o))
-  where
-    p : (ltb 63 n ≡ false) × (edgeRefusal (edge (c .volatile .lines) n) (c .volatile .lines) (c .volatile .programming) ≡ 0)
-    p = peel (ltb 63 n) 0 (edgeRefusal (edge (c .volatile .lines) n) (c .volatile .lines) (c .volatile .programming)) r
-
-    s : SoundCard c
-    s = let-pass c e
-
-    small : n < 64
-    small = omega (arith, ltb-false 63 n (p .0))

@@ -35,69 +35,53 @@ moved Programs n c = programmed (operationOf c) n c
 moved Unlatches n c = withVolatile c (unlatched n (c .volatile .matched) (c .volatile))
 moved Clocks n c = clocked n c
 
-clkFell : Bool → Bool → Way
-clkFell programming rst = cond programming Programs (cond rst Unlatches Clocks)
-
-poweredWay : Edge → ℕ → Bool → Way
-unfolding clkFell
-poweredWay Same levels programming = Keeps
-poweredWay Many levels programming = Keeps
-poweredWay (Rises VCC) levels programming = Follows
-poweredWay (Rises RST) levels programming = Follows
-poweredWay (Rises CLK) levels programming = Latches
-poweredWay (Rises PGM) levels programming = Follows
-poweredWay (Rises IO) levels programming = Follows
-poweredWay (Rises FUS) levels programming = Follows
-poweredWay (Falls VCC) levels programming = SwitchesOff
-poweredWay (Falls RST) levels programming = Resets
-poweredWay (Falls CLK) levels programming = clkFell programming (high RST levels)
-poweredWay (Falls PGM) levels programming = Follows
-poweredWay (Falls IO) levels programming = Follows
-poweredWay (Falls FUS) levels programming = Follows
-
-pub way : Volatile → ℕ → Way
-unfolding poweredWay
-way v n =
-    cond (eqb (refusal v n) 0) (cond (high VCC (v .lines)) (poweredWay (edge (v .lines) n) (v .lines) (v .programming)) Follows) Keeps
-
 moved-cond : (b : Bool) (w w′ : Way) (n : ℕ) (c : Card) → moved (cond b w w′) n c ≡ cond b (moved w n c) (moved w′ n c)
 moved-cond true w w′ n c = refl
 moved-cond false w w′ n c = refl
 
-clk-fell : (n : ℕ) (c : Card) → clkFalls n c ≡ moved (clkFell (c .volatile .programming) (high RST (c .volatile .lines))) n c
-unfolding clkFalls clkFell moved
-clk-fell n c =
-    rw (moved-cond (c .volatile .programming) Programs _ n c, moved-cond (high RST (c .volatile .lines)) Unlatches Clocks n c)
+-- The way of an edge with VCC on, by levels and programming, with the law that it is the edge's.
+powered-way :
+    (e : Edge) (levels : ℕ) (programming : Bool) →
+    (w : Way) ×
+    ((n : ℕ) (c : Card) → c .volatile .lines ≡ levels → c .volatile .programming ≡ programming → powered e n c ≡ moved w n c)
+unfolding powered moved clkFalls
+powered-way Same levels programming = (Keeps, λ n c _ _. refl)
+powered-way Many levels programming = (Keeps, λ n c _ _. refl)
+powered-way (Rises VCC) levels programming = (Follows, λ n c _ _. refl)
+powered-way (Rises RST) levels programming = (Follows, λ n c _ _. refl)
+powered-way (Rises CLK) levels programming = (Latches, λ n c _ _. refl)
+powered-way (Rises PGM) levels programming = (Follows, λ n c _ _. refl)
+powered-way (Rises IO) levels programming = (Follows, λ n c _ _. refl)
+powered-way (Rises FUS) levels programming = (Follows, λ n c _ _. refl)
+powered-way (Falls VCC) levels programming = (SwitchesOff, λ n c _ _. refl)
+powered-way (Falls RST) levels programming = (Resets, λ n c _ _. refl)
+powered-way (Falls CLK) levels programming = (
+  cond programming Programs (cond (high RST levels) Unlatches Clocks),
+  λ n c l p.
+      rw (
+        ← l,
+        ← p,
+        moved-cond (c .volatile .programming) Programs _ n c,
+        moved-cond (high RST (c .volatile .lines)) Unlatches Clocks n c,
+      ),
+)
+powered-way (Falls PGM) levels programming = (Follows, λ n c _ _. refl)
+powered-way (Falls IO) levels programming = (Follows, λ n c _ _. refl)
+powered-way (Falls FUS) levels programming = (Follows, λ n c _ _. refl)
 
-powered-moves : (e : Edge) (n : ℕ) (c : Card) → powered e n c ≡ moved (poweredWay e (c .volatile .lines) (c .volatile .programming)) n c
-unfolding powered poweredWay moved
-powered-moves Same n c = refl
-powered-moves Many n c = refl
-powered-moves (Rises VCC) n c = refl
-powered-moves (Rises RST) n c = refl
-powered-moves (Rises CLK) n c = refl
-powered-moves (Rises PGM) n c = refl
-powered-moves (Rises IO) n c = refl
-powered-moves (Rises FUS) n c = refl
-powered-moves (Falls VCC) n c = refl
-powered-moves (Falls RST) n c = refl
-powered-moves (Falls CLK) n c = clk-fell n c
-powered-moves (Falls PGM) n c = refl
-powered-moves (Falls IO) n c = refl
-powered-moves (Falls FUS) n c = refl
+pub way : Volatile → ℕ → Way
+way v n =
+    cond (eqb (refusal v n) 0) (cond (high VCC (v .lines)) (powered-way (edge (v .lines) n) (v .lines) (v .programming) .0) Follows) Keeps
 
-stepped-moves : (c : Card) (n : ℕ) → stepped c n ≡ moved (way (c .volatile) n) n c
+-- Whatever a step does, it is one of the ways.
+pub stepped-moves : (c : Card) (n : ℕ) → stepped c n ≡ moved (way (c .volatile) n) n c
 unfolding stepped next way moved
 stepped-moves c n =
     rw (
       moved-cond (eqb (refusal (c .volatile) n) 0) _ _ n c,
       moved-cond (high VCC (c .volatile .lines)) _ _ n c,
-      powered-moves (edge (c .volatile .lines) n) n c,
+      powered-way (edge (c .volatile .lines) n) (c .volatile .lines) (c .volatile .programming) .1 n c refl refl,
     )
-
--- Whatever a step does, it is one of the ways.
-pub step-cases : (P : Card → Type 0) (c : Card) (n : ℕ) → P (moved (way (c .volatile) n) n c) → P (stepped c n)
-step-cases P c n h = rw (stepped-moves c n) h
 
 pub same-refusal : (v v′ : Volatile) (n : ℕ) → v .lines ≡ v′ .lines → v .programming ≡ v′ .programming → refusal v n ≡ refusal v′ n
 unfolding refusal
