@@ -68,7 +68,7 @@ module _ (c : Card) where
         ← takes-effect (idle fus) levels d m a sv matched low high,
         ← operation-SCAC (held (c .fuses) v) (unblown EC-EN (c .fuses)) d a low (omega arith),
       )
-      (programs c fus d m a sv matched)
+      (programs c m a sv matched fus d)
 
   -- "write, erase" at a try that is still there: with the match the card opens and its word is erased, without it the try is spent.
   pub uses-try : (fus : Bool) (m : List ℕ) (a : ℕ) (matched : Bool) → 96 ≤ a → a ≤ 103 → bit m a ≡ true →

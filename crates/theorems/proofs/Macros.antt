@@ -73,17 +73,18 @@ module _ (c : Card) where
   resets false m a sv e1 matched = step refl (step refl (ends refl))
 
   -- "set I/O"
-  sets-io : (fus level b : Bool) (m : List ℕ) (a : ℕ) (sv matched : Bool) →
-      Leads (ready fus level m a sv matched) ((base fus + io b) ∷ []) (ready fus b m a sv matched)
-  unfolding the-card base io
-  sets-io true true true m a sv matched = step refl (ends refl)
-  sets-io true true false m a sv matched = step refl (ends refl)
-  sets-io true false true m a sv matched = step refl (ends refl)
-  sets-io true false false m a sv matched = step refl (ends refl)
-  sets-io false true true m a sv matched = step refl (ends refl)
-  sets-io false true false m a sv matched = step refl (ends refl)
-  sets-io false false true m a sv matched = step refl (ends refl)
-  sets-io false false false m a sv matched = step refl (ends refl)
+  module _ (m : List ℕ) (a : ℕ) (sv matched : Bool) where
+    sets-io :
+        (fus level b : Bool) → Leads (ready fus level m a sv matched) ((base fus + io b) ∷ []) (ready fus b m a sv matched)
+    unfolding the-card base io
+    sets-io true true true = step refl (ends refl)
+    sets-io true true false = step refl (ends refl)
+    sets-io true false true = step refl (ends refl)
+    sets-io true false false = step refl (ends refl)
+    sets-io false true true = step refl (ends refl)
+    sets-io false true false = step refl (ends refl)
+    sets-io false false true = step refl (ends refl)
+    sets-io false false false = step refl (ends refl)
 
   -- "compare at the old address, then the address goes up by one": below 103 the arrival does nothing more.
   clocked-below : (n levels : ℕ) (latch : Bool) (m : List ℕ) (a : ℕ) (matched : Bool) → a < 103 →
@@ -104,14 +105,15 @@ module _ (c : Card) where
       )
 
   -- "CLK up, down"
-  ticks : (fus level : Bool) (m : List ℕ) (a : ℕ) (matched : Bool) → a < 103 →
-      Leads (ready fus level m a false matched) ((base fus + io level + mask CLK) ∷ (base fus + io level) ∷ [])
-      (ready fus level m (a + 1) false (codeMatch m a level matched))
-  unfolding the-card base io
-  ticks true true m a matched h = step refl (step refl (ends (clocked-below 49 53 true m a matched h)))
-  ticks true false m a matched h = step refl (step refl (ends (clocked-below 33 37 false m a matched h)))
-  ticks false true m a matched h = step refl (step refl (ends (clocked-below 17 21 true m a matched h)))
-  ticks false false m a matched h = step refl (step refl (ends (clocked-below 1 5 false m a matched h)))
+  module _ (m : List ℕ) (a : ℕ) (matched : Bool) (h : a < 103) where
+    ticks : (fus level : Bool) →
+        Leads (ready fus level m a false matched) ((base fus + io level + mask CLK) ∷ (base fus + io level) ∷ [])
+        (ready fus level m (a + 1) false (codeMatch m a level matched))
+    unfolding the-card base io
+    ticks true true = step refl (step refl (ends (clocked-below 49 53 true m a matched h)))
+    ticks true false = step refl (step refl (ends (clocked-below 33 37 false m a matched h)))
+    ticks false true = step refl (step refl (ends (clocked-below 17 21 true m a matched h)))
+    ticks false false = step refl (step refl (ends (clocked-below 1 5 false m a matched h)))
 
   -- "Walk n": outside the code the match stays.
   pub walks : (fus : Bool) (m : List ℕ) (n a : ℕ) (matched : Bool) → a + n ≤ 103 →
@@ -123,26 +125,27 @@ module _ (c : Card) where
       let here : codeMatch m a true matched ≡ matched = rw (outside a (omega arith) (omega arith)) in
       let there : a + 1 + n ≡ a + suc n = omega arith in
       let rest = walks fus m n (a + 1) matched (omega arith) (λ x low high. outside x (omega arith) (omega arith)) in
-      then (ticks fus true m a matched (omega arith)) (rw here (rw there at rest))
+      then (ticks m a matched (omega arith) fus true) (rw here (rw there at rest))
 
   -- "per bit set I/O, CLK up, down; at the end I/O 1"
   pub shows : (fus level : Bool) (m : List ℕ) (bs : List Bool) (a : ℕ) (matched : Bool) → a + length bs ≤ 103 →
       Leads (ready fus level m a false matched) (showBits fus bs)
       (ready fus true m (a + length bs) false (shownMatch m a bs matched))
   unfolding showBits shownMatch
-  shows fus level m [] a matched h = rw (add-zero a) (sets-io fus level true m a false matched)
+  shows fus level m [] a matched h = rw (add-zero a) (sets-io m a false matched fus level true)
   shows fus level m (b ∷ bs) a matched h =
       let there : a + 1 + length bs ≡ a + suc (length bs) = omega arith in
       let rest = shows fus b m bs (a + 1) (codeMatch m a b matched) (omega arith) in
-      then (sets-io fus level b m a false matched) (then (ticks fus b m a matched (omega arith)) (rw there at rest))
+      then (sets-io m a false matched fus level b) (then (ticks m a matched (omega arith) fus b) (rw there at rest))
 
   -- "program d: PGM up, I/O d, CLK up, PGM down, I/O 1, CLK down": the operation takes effect, wherever the card stands.
-  pub programs : (fus d : Bool) (m : List ℕ) (a : ℕ) (sv matched : Bool) →
-      let there = on (idle fus + mask CLK) d true m a sv false matched in
-      Leads (ready fus true m a sv matched) (program fus d)
-      (programmed (operation (held (c .fuses) (there .volatile)) (unblown EC-EN (c .fuses)) false d a) (idle fus) there)
-  unfolding the-card base io program
-  programs true true m a sv matched = step refl (step refl (step refl (step refl (step refl (step refl (ends refl))))))
-  programs true false m a sv matched = step refl (step refl (step refl (step refl (step refl (step refl (ends refl))))))
-  programs false true m a sv matched = step refl (step refl (step refl (step refl (step refl (step refl (ends refl))))))
-  programs false false m a sv matched = step refl (step refl (step refl (step refl (step refl (step refl (ends refl))))))
+  module _ (m : List ℕ) (a : ℕ) (sv matched : Bool) where
+    pub programs : (fus d : Bool) →
+        let there = on (idle fus + mask CLK) d true m a sv false matched in
+        Leads (ready fus true m a sv matched) (program fus d)
+        (programmed (operation (held (c .fuses) (there .volatile)) (unblown EC-EN (c .fuses)) false d a) (idle fus) there)
+    unfolding the-card base io program
+    programs true true = search (step, ends) depth 8
+    programs true false = search (step, ends) depth 8
+    programs false true = search (step, ends) depth 8
+    programs false false = search (step, ends) depth 8

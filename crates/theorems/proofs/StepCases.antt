@@ -39,39 +39,34 @@ moved-cond : (b : Bool) (w w′ : Way) (n : ℕ) (c : Card) → moved (cond b w 
 moved-cond true w w′ n c = refl
 moved-cond false w w′ n c = refl
 
--- The way of an edge with VCC on, by levels and programming, with the law that it is the edge's.
-powered-way :
-    (e : Edge) (levels : ℕ) (programming : Bool) →
-    (w : Way) ×
-    ((n : ℕ) (c : Card) → c .volatile .lines ≡ levels → c .volatile .programming ≡ programming → powered e n c ≡ moved w n c)
-unfolding powered moved clkFalls
-powered-way Same levels programming = (Keeps, λ n c _ _. refl)
-powered-way Many levels programming = (Keeps, λ n c _ _. refl)
-powered-way (Rises VCC) levels programming = (Follows, λ n c _ _. refl)
-powered-way (Rises RST) levels programming = (Follows, λ n c _ _. refl)
-powered-way (Rises CLK) levels programming = (Latches, λ n c _ _. refl)
-powered-way (Rises PGM) levels programming = (Follows, λ n c _ _. refl)
-powered-way (Rises IO) levels programming = (Follows, λ n c _ _. refl)
-powered-way (Rises FUS) levels programming = (Follows, λ n c _ _. refl)
-powered-way (Falls VCC) levels programming = (SwitchesOff, λ n c _ _. refl)
-powered-way (Falls RST) levels programming = (Resets, λ n c _ _. refl)
-powered-way (Falls CLK) levels programming = (
-  cond programming Programs (cond (high RST levels) Unlatches Clocks),
-  λ n c l p.
-      rw (
-        ← l,
-        ← p,
-        moved-cond (c .volatile .programming) Programs _ n c,
-        moved-cond (high RST (c .volatile .lines)) Unlatches Clocks n c,
-      ),
-)
-powered-way (Falls PGM) levels programming = (Follows, λ n c _ _. refl)
-powered-way (Falls IO) levels programming = (Follows, λ n c _ _. refl)
-powered-way (Falls FUS) levels programming = (Follows, λ n c _ _. refl)
+module _ (levels : ℕ) (programming : Bool) where
+  -- The way of an edge with VCC on, by levels and programming, with the law that it is the edge's.
+  powered-way :
+      (e : Edge) →
+      (w : Way) ×
+      ((n : ℕ) (c : Card) → c .volatile .lines ≡ levels → c .volatile .programming ≡ programming → powered e n c ≡ moved w n c)
+  unfolding powered moved clkFalls
+  powered-way Same = (Keeps, λ n c _ _. refl)
+  powered-way Many = (Keeps, λ n c _ _. refl)
+  powered-way (Rises VCC) = (Follows, λ n c _ _. refl)
+  powered-way (Rises RST) = (Follows, λ n c _ _. refl)
+  powered-way (Rises CLK) = (Latches, λ n c _ _. refl)
+  powered-way (Rises PGM) = (Follows, λ n c _ _. refl)
+  powered-way (Rises IO) = (Follows, λ n c _ _. refl)
+  powered-way (Rises FUS) = (Follows, λ n c _ _. refl)
+  powered-way (Falls VCC) = (SwitchesOff, λ n c _ _. refl)
+  powered-way (Falls RST) = (Resets, λ n c _ _. refl)
+  powered-way (Falls CLK) = (
+    cond programming Programs (cond (high RST levels) Unlatches Clocks),
+    λ n c l p. rw (← l, ← p, moved-cond (c .volatile .programming) Programs _ n c, moved-cond (high RST _) Unlatches Clocks n c),
+  )
+  powered-way (Falls PGM) = (Follows, λ n c _ _. refl)
+  powered-way (Falls IO) = (Follows, λ n c _ _. refl)
+  powered-way (Falls FUS) = (Follows, λ n c _ _. refl)
 
 pub way : Volatile → ℕ → Way
 way v n =
-    cond (eqb (refusal v n) 0) (cond (high VCC (v .lines)) (powered-way (edge (v .lines) n) (v .lines) (v .programming) .0) Follows) Keeps
+    cond (eqb (refusal v n) 0) (cond (high VCC (v .lines)) (powered-way (v .lines) (v .programming) (edge (v .lines) n) .0) Follows) Keeps
 
 -- Whatever a step does, it is one of the ways.
 pub stepped-moves : (c : Card) (n : ℕ) → stepped c n ≡ moved (way (c .volatile) n) n c
@@ -80,7 +75,7 @@ stepped-moves c n =
     rw (
       moved-cond (eqb (refusal (c .volatile) n) 0) _ _ n c,
       moved-cond (high VCC (c .volatile .lines)) _ _ n c,
-      powered-way (edge (c .volatile .lines) n) (c .volatile .lines) (c .volatile .programming) .1 n c refl refl,
+      powered-way (c .volatile .lines) (c .volatile .programming) (edge (c .volatile .lines) n) .1 n c refl refl,
     )
 
 pub same-refusal : (v v′ : Volatile) (n : ℕ) → v .lines ≡ v′ .lines → v .programming ≡ v′ .programming → refusal v n ≡ refusal v′ n
