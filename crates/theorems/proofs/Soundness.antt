@@ -23,7 +23,7 @@ use Rattle.rules.specs.Steps.{powered, next}
 use Rattle.rules.specs.Refusals.{edgeRefusal, refusal, anySet, madeUp, stateRefusal}
 use Rattle.rules.specs.Demands.{Sound-stays-sound}
 use Rattle.theorems.proofs.ZoneCases.{addressed}
-use Rattle.theorems.proofs.Tests.{cond-cases, peel, neither, guarded, all, below₂, Moved, edge-moves}
+use Rattle.theorems.proofs.Tests.{cond-cases, peel, neither-left, neither-right, guarded, unguarded, all, below₂, Moved, edge-moves}
 
 -- Where match may hold, and E1.
 unfoldable pub mayMatch : ℕ → Bool
@@ -50,31 +50,21 @@ pub record Sound (v : Volatile) : Type 0 where
   pub wired : Wired (v .lines) (v .latch) (v .programming)
   pub placed : Placed (v .address) (v .matched) (v .e1)
 
+ruleset chain = (neither-left, neither-right, unguarded, not-false)
+
 -- What 9 lets pass is sound.
 pub sound : (v : Volatile) → madeUp v ≡ false → Sound v
 unfolding madeUp mayMatch mayE1
 sound v e =
-    let l = neither (ltb 63 (v .lines)) _ e in
-    let a = neither (ltb last (v .address)) _ (l .1) in
-    let p = neither (not (high VCC (v .lines)) && anySet v) _ (a .1) in
-    let d = neither (v .latch && not (high CLK (v .lines))) _ (p .1) in
-    let u = neither (v .programming && not (high CLK (v .lines))) _ (d .1) in
-    let s = neither (high VCC (v .lines) && (high CLK (v .lines) && (high PGM (v .lines) && not (v .programming)))) _ (u .1) in
-    let m = neither (v .matched && not (mayMatch (v .address))) _ (s .1) in
     record {
-      levels = omega (arith, ltb-false 63 (v .lines) (l .0));
-      unpowered = p .0;
-      wired =
-          record {
-            latched = λ q. not-false (high CLK (v .lines)) (cc);
-            under-way = λ q. not-false (high CLK (v .lines)) (cc);
-            started = λ x y z. not-false (v .programming) (cc);
-          };
+      levels = omega (arith, ltb-false 63 (v .lines) (search chain));
+      unpowered = search chain;
+      wired = record { latched = λ q. search chain; under-way = λ q. search chain; started = λ x y z. search chain };
       placed =
           record {
-            within = ltb-false last (v .address) (a .0);
-            matching = λ q. not-false (mayMatch (v .address)) (cc);
-            e1-held = λ q. not-false (mayE1 (v .address)) (cc);
+            within = search (chain, ltb-false);
+            matching = λ q. search chain depth 8;
+            e1-held = λ q. search chain depth 8;
           };
     }
 

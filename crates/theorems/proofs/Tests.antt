@@ -2,7 +2,7 @@
 -- the levels before and after it.
 use Prim.Native.Nat.{ℕ, suc, _<_}
 use mathlib.Core.Path.{_≡_, refl}
-use mathlib.Core.Bool.{Bool, true, false, cond, not, _&&_, _||_, Bool·beq, true≢false}
+use mathlib.Core.Bool.{Bool, true, false, cond, not, _&&_, _||_, Bool·beq}
 use native.Mathlib.Omega.{arith}
 use lib.Dec.{eqb}
 use borrow.Author.Tests.{eqb-true}
@@ -21,13 +21,21 @@ pub peel : (t : Bool) (k r : ℕ) → cond t (suc k) r ≡ 0 → (t ≡ false) �
 peel true k r e = absurd (omega arith)
 peel false k r e = (refl, e)
 
-pub neither : (a b : Bool) → (a || b) ≡ false → (a ≡ false) × (b ≡ false)
-neither true b e = absurd (true≢false e)
-neither false b e = (refl, e)
+pub neither-left : (a b : Bool) → (a || b) ≡ false → a ≡ false
+neither-left true b e = e
+neither-left false b e = refl
+
+pub neither-right : (a b : Bool) → (a || b) ≡ false → b ≡ false
+neither-right true b e = cc
+neither-right false b e = e
 
 pub guarded : (a b : Bool) → (a ≡ true → b ≡ false) → (a && b) ≡ false
 guarded true b f = f refl
 guarded false b f = refl
+
+pub unguarded : (a b : Bool) → (a && b) ≡ false → a ≡ true → b ≡ false
+unguarded true b e _ = e
+unguarded false b e q = cc
 
 pub beq-true : (a b : Bool) → Bool·beq a b ≡ true → a ≡ b
 beq-true true true e = refl
