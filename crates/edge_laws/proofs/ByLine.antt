@@ -4,7 +4,7 @@ use native.Mathlib.Omega.{arith}
 use mathlib.Core.Path.{_≡_, refl, sym, ap, _∙_}
 use mathlib.Core.Bool.{Bool, true, false, cond, not, _&&_, _||_, and-true, and-false, or-true, false≢true}
 use mathlib.Core.List.{[]}
-use lib.Dec.{eqb, ltb}
+use lib.Dec.{eqb}
 use lib.Bits.{bitXor, bitAnd}
 use borrow.Author.Tests.{lt-ltb, le-ltb, ltb-false, eq-eqb, ne-eqb, not-true, not-false}
 use Rattle.memory.specs.Image.{bit}
@@ -12,11 +12,11 @@ use Rattle.rules.specs.Halves as Halves
 use Rattle.rules.specs.Halves.{Card, off}
 use Rattle.rules.specs.Lines.{Line, VCC, RST, CLK, PGM, IO, FUS, place, mask, high, Edge, Same, Rises, Falls, Many, change, edge}
 use Rattle.rules.specs.Rights.{held}
-use Rattle.rules.specs.Refusals.{anySet, madeUp, many, edgeRefusal, refusal}
+use Rattle.rules.specs.Refusals.{anySet, many, edgeRefusal, refusal}
 use Rattle.rules.specs.Match.{arrived}
 use Rattle.rules.specs.Steps.{follows, withVolatile, vccFalls, clkRises, rstFalls, unlatched, clocked, clkFalls, powered, next}
 use Rattle.rules.specs.Steps.{driven, pinValue, pin}
-use Rattle.theorems.proofs.Tests.{cond-cases, neither, edge-same}
+use Rattle.theorems.proofs.Tests.{cond-cases, neither-left, neither-right, edge-same}
 use Rattle.theorems.proofs.Soundness.{Sound, sound}
 use Rattle.volatile.specs.declared.Volatile.{Volatile}
 use Rattle.volatile.specs.Packed.{packed, unpacked, Given, cardOf, handedBack, withHalf, programmedCard, madeUpWord}
@@ -29,11 +29,11 @@ use Rattle.edge_laws.proofs.EdgeRefusals.{refused, line-refusal, same-r
 -- 9's clauses, of a packed half.
 pub flags-small : (v : Volatile) → madeUpWord v ≡ false → v .flags < 128
 unfolding madeUpWord
-flags-small v e = omega (arith, ltb-false 127 (v .flags) (neither (ltb 127 (v .flags)) (madeUp (unpacked v)) e .0))
+flags-small v e = omega (arith, ltb-false 127 (v .flags) (search neither-left))
 
 pub sound-half : (v : Volatile) → madeUpWord v ≡ false → Sound (unpacked v)
 unfolding madeUpWord
-sound-half v e = sound (unpacked v) (neither (ltb 127 (v .flags)) (madeUp (unpacked v)) e .1)
+sound-half v e = sound (unpacked v) (search neither-right)
 
 -- A test that cannot hold beside another.
 off-then : (a b : Bool) → (a ≡ true → b ≡ true) → b ≡ false → a ≡ false

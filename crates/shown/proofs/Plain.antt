@@ -14,14 +14,14 @@ use Rattle.rules.specs.Zones.{between, zone}
 use Rattle.rules.specs.Rights.{Held, held, level1, mayRead}
 use Rattle.rules.specs.Match.{compared, following, endsMatch, arrived}
 use Rattle.rules.specs.Steps.{withVolatile, unlatched, clocked}
-use Rattle.theorems.proofs.Tests.{beq-true, below-then, neither}
+use Rattle.theorems.proofs.Tests.{beq-true, below-then, neither-left, neither-right}
 use Rattle.volatile.specs.Packed.{unpacked, Given, cardOf, goneOn}
 use Rattle.volatile.proofs.Between.{over}
 use Rattle.volatile.proofs.Readable.{az-readable, sv-or-r1}
 use Rattle.shown.specs.Shown.{plainAt, Shows}
 
 -- A test of the addresses holds at all of `count` from `low` on, by one computed test.
-pub over-range :
+over-range :
     (low count : ℕ) (t : Bool) → all count (λ (k : ℕ). Bool·beq (plainAt (low + k)) t) ≡ true → (a : ℕ) → low ≤ a → a < low + count →
     plainAt a ≡ t
 over-range low count t e a h k =
@@ -40,12 +40,17 @@ module _ (a flags : ℕ) where
   pub no-walk : plainAt a ≡ false → Shows a flags 2
   no-walk e = record { plain = e; small = omega arith; read = λ k. absurd (omega arith) }
 
-  module _ (plain : plainAt a ≡ true) where
-    pub shown : ((h : Held) → mayRead h (zone a) ≡ true) → Shows a flags 1
-    shown f = record { plain = plain; small = omega arith; read = λ _ fuses v _ _. f (held fuses v) }
+  -- Around the address, by one computed test.
+  module _ (low count : ℕ) where
+    pub no-walk-in : all count (λ (k : ℕ). Bool·beq (plainAt (low + k)) false) ≡ true → low ≤ a → a < low + count → Shows a flags 2
+    no-walk-in e h k = no-walk (over-range low count false e a h k)
 
-    pub not-shown : ((h : Held) → mayRead h (zone a) ≡ false) → Shows a flags 0
-    not-shown f = record { plain = plain; small = omega arith; read = λ _ fuses v _ _. f (held fuses v) }
+    module _ (e : all count (λ (k : ℕ). Bool·beq (plainAt (low + k)) true) ≡ true) (h : low ≤ a) (k : a < low + count) where
+      pub shown : ((h : Held) → mayRead h (zone a) ≡ true) → Shows a flags 1
+      shown f = record { plain = over-range low count true e a h k; small = omega arith; read = λ _ fuses v _ _. f (held fuses v) }
+
+      pub not-shown : ((h : Held) → mayRead h (zone a) ≡ false) → Shows a flags 0
+      not-shown f = record { plain = over-range low count true e a h k; small = omega arith; read = λ _ fuses v _ _. f (held fuses v) }
 
   -- AZ is read with SV or R1.
   module _ (low : 178 ≤ a) (top : a < 1199) where
@@ -105,20 +110,16 @@ quietFrom a =
     let b = a + 1 in
     not (eqb b 104 || (eqb b 176 || (eqb b 177 || (eqb b 1232 || (eqb b 1360 || (between 80 95 a || between 1200 1231 a))))))
 
-quiet-from : (a : ℕ) → plainAt (a + 1) ≡ true → quietFrom a ≡ true
-unfolding all plainAt quietFrom between
-quiet-from a e = go (decLt a 1519)
-  where
-    go : Dec (a < 1519) → quietFrom a ≡ true
-    go (yes h) = below-then 1519 (λ (x : ℕ). plainAt (x + 1)) quietFrom refl a h e
-    go (no h) = absurd (false≢true (sym (past-last (a + 1) (omega arith)) ∙ e))
-
 below-last : (a : ℕ) → plainAt (a + 1) ≡ true → a < 1519
 below-last a e = go (decLt a 1519)
   where
     go : Dec (a < 1519) → a < 1519
     go (yes h) = h
     go (no h) = absurd (false≢true (sym (past-last (a + 1) (omega arith)) ∙ e))
+
+quiet-from : (a : ℕ) → plainAt (a + 1) ≡ true → quietFrom a ≡ true
+unfolding all plainAt quietFrom between
+quiet-from a e = below-then 1519 (λ (x : ℕ). plainAt (x + 1)) quietFrom refl a (below-last a e) e
 
 record Quiet (a : ℕ) : Type 0 where
   not-104 : eqb (a + 1) 104 ≡ false
@@ -131,23 +132,7 @@ record Quiet (a : ℕ) : Type 0 where
 
 quiet : (a : ℕ) → plainAt (a + 1) ≡ true → Quiet a
 unfolding quietFrom
-quiet a e =
-    let b = a + 1 in
-    let p = neither (eqb b 104) _ (not-true _ (quiet-from a e)) in
-    let q = neither (eqb b 176) _ (p .1) in
-    let r = neither (eqb b 177) _ (q .1) in
-    let s = neither (eqb b 1232) _ (r .1) in
-    let t = neither (eqb b 1360) _ (s .1) in
-    let u = neither (between 80 95 a) (between 1200 1231 a) (t .1) in
-    record {
-      not-104 = p .0;
-      not-176 = q .0;
-      not-177 = r .0;
-      not-1232 = s .0;
-      not-1360 = t .0;
-      uncoded = u .0;
-      unkeyed = u .1;
-    }
+quiet a e = let q = quiet-from a e in search (not-true, neither-left, neither-right) depth 9
 
 uncompared :
     (l1 sv latch stored : Bool) (a : ℕ) (matched : Bool) → plainAt (a + 1) ≡ true → compared l1 sv latch stored a matched ≡ matched

@@ -1,8 +1,8 @@
 -- The match of the security code: what the bits shown from 80 on make of it.
 use Prim.Native.Nat.{ℕ, zero, suc, _+_, _≤_, _<_}
 use native.Mathlib.Omega.{arith}
-use mathlib.Core.Path.{_≡_, refl, sym, ap, ap₂, _∙_}
-use mathlib.Core.Bool.{Bool, true, false, cond, _&&_, _||_, Bool·beq, and-false, false≢true}
+use mathlib.Core.Path.{_≡_, refl, ap, ap₂, _∙_}
+use mathlib.Core.Bool.{Bool, true, false, cond, _&&_, _||_, Bool·beq, or-true, and-false}
 use mathlib.Core.List.{List, [], _∷_}
 use lib.Dec.{eqb, leb}
 use lib.ListN.{length}
@@ -12,6 +12,7 @@ use Rattle.rules.specs.Halves.{Card}
 use Rattle.rules.specs.Zones.{between}
 use Rattle.rules.specs.Maker.{digits}
 use Rattle.rules.specs.Demands.{bitsFrom, CodeIsRight}
+use Rattle.theorems.proofs.Tests.{and-left, beq-true}
 
 -- The match after the compare of the bit b with the one at a, with SV 0 and below the erase key.
 unfoldable pub codeMatch : List ℕ → ℕ → Bool → Bool → Bool
@@ -29,14 +30,13 @@ stored-match : (m : List ℕ) (n a : ℕ) → shownMatch m a (bitsFrom m a n) tr
 unfolding shownMatch codeMatch bitsFrom between
 stored-match m zero a = refl
 stored-match m (suc n) a =
-    ap (shownMatch m (a + 1) (bitsFrom m (a + 1) n)) (same (between 80 95 a) (bit m a) (eqb a 80)) ∙ stored-match m n (a + 1)
+    ap (shownMatch m (a + 1) (bitsFrom m (a + 1) n)) (rw (or-true (eqb a 80)) (same (between 80 95 a) (bit m a))) ∙
+    stored-match m n (a + 1)
   where
-    same : (inside b first : Bool) → cond inside (Bool·beq b b && (first || true)) true ≡ true
-    same false b first = refl
-    same true true true = refl
-    same true true false = refl
-    same true false true = refl
-    same true false false = refl
+    same : (inside b : Bool) → cond inside (Bool·beq b b && true) true ≡ true
+    same false b = refl
+    same true true = refl
+    same true false = refl
 
 -- "at 81 to 95 match stays only if it held": past 80 it does not come back.
 lost-match : (m : List ℕ) (bs : List Bool) (a : ℕ) → 80 < a → shownMatch m a bs false ≡ false
@@ -60,17 +60,11 @@ matched-bits m (b ∷ bs) a matched low high e =
     inside : (leb 80 a && leb a 95) ≡ true
     inside = rw (le-leb 80 a low, le-leb a 95 (omega arith))
 
-    agree : (x y t : Bool) → (Bool·beq x y && t) ≡ true → x ≡ y
-    agree true true t q = refl
-    agree true false t q = sym q
-    agree false true t q = q
-    agree false false t q = refl
-
     go : (t : Bool) → codeMatch m a b matched ≡ t → shownMatch m (a + 1) bs t ≡ true →
         ((t : Bool) → shownMatch m (a + 1) bs t ≡ true → bs ≡ bitsFrom m (a + 1) (length bs)) →
         b ∷ bs ≡ bit m a ∷ bitsFrom m (a + 1) (length bs)
-    go true q l rest = ap₂ _∷_ (agree b (bit m a) (eqb a 80 || matched) (rw inside at q)) (rest true l)
-    go false q l rest = absurd (false≢true (sym (lost-match m bs (a + 1) (omega arith)) ∙ l))
+    go true q l rest = ap₂ _∷_ (beq-true b (bit m a) (and-left _ _ (rw inside at q))) (rest true l)
+    go false q l rest = cc (lost-match m bs (a + 1) (omega arith))
 
 pub right-matches : (code : ℕ) (c : Card) → CodeIsRight code c → shownMatch (c .memory) 80 (digits 16 code) false ≡ true
 unfolding shownMatch codeMatch bitsFrom between

@@ -16,7 +16,7 @@ use Rattle.rules.specs.declared.Operation.{Operation}
 use Rattle.rules.specs.declared.Operation.the-variants.{Nothing, WriteBit, EraseWord}
 use Rattle.rules.specs.Zones.{between, zone}
 use Rattle.rules.specs.Rights.{Held, held, level1, granted}
-use Rattle.rules.specs.Programming.{operation, asks, mayProgram, memoryAfter, turns, opens, keyOpens}
+use Rattle.rules.specs.Programming.{operation, asks, mayProgram, memoryAfter, fusesAfter, turns, opens, keyOpens}
 use Rattle.rules.specs.Halves.{Card, EC-EN, unblown}
 use Rattle.rules.specs.Lines.{CLK, mask}
 use Rattle.rules.specs.Steps.{programmed}
@@ -42,6 +42,12 @@ granted-SCAC false ec-en false a h = refl
 act : Bool → Bool → Operation
 act d sv = cond (cond d sv true) (cond d EraseWord WriteBit) Nothing
 
+act-blows-none : (d sv : Bool) (fuses : ℕ) → fusesAfter (act d sv) fuses ≡ fuses
+unfolding act fusesAfter
+act-blows-none true true fuses = refl
+act-blows-none true false fuses = refl
+act-blows-none false sv fuses = refl
+
 operation-SCAC : (h : Held) (ec-en d : Bool) (a : ℕ) → 96 ≤ a → a ≤ 111 → operation h ec-en false d a ≡ act d (h .sv)
 unfolding operation mayProgram act
 operation-SCAC h ec-en d a low high = rw (zone-SCAC a low high, granted-SCAC (level1 h) ec-en d a h)
@@ -50,11 +56,8 @@ module _ (c : Card) where
   takes-effect : (n levels : ℕ) (d : Bool) (m : List ℕ) (a : ℕ) (sv matched : Bool) → 96 ≤ a → a ≤ 103 →
       programmed (act d sv) n (on c levels d true m a sv false matched) ≡
       on c n false false (memoryAfter (act d sv) a m) a (opens (act d sv) m a matched || sv) false matched
-  unfolding act programmed keyOpens
-  takes-effect n levels true m a true matched low high = rw (under 1232 1359 a (omega arith))
-  takes-effect n levels true m a false matched low high = rw (under 1232 1359 a (omega arith))
-  takes-effect n levels false m a true matched low high = rw (under 1232 1359 a (omega arith))
-  takes-effect n levels false m a false matched low high = rw (under 1232 1359 a (omega arith))
+  unfolding programmed keyOpens
+  takes-effect n levels d m a sv matched low high = rw (under 1232 1359 a (omega arith), act-blows-none d sv (c .fuses))
 
   -- "program d" at a try.
   programs-counter : (fus d : Bool) (m : List ℕ) (a : ℕ) (sv matched : Bool) → 96 ≤ a → a ≤ 103 →

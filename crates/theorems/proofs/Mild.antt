@@ -1,6 +1,6 @@
 -- What 01's table of rights leaves without SV, and that what is left touches none of the three hidden zones.
 use Prim.Native.Nat.{ℕ, _<_, _/_}
-use mathlib.Core.Path.{_≡_, refl, sym, ap, _∙_}
+use mathlib.Core.Path.{_≡_, refl, ap, _∙_}
 use mathlib.Core.Bool.{Bool, true, false, cond, not, _&&_, _||_, Bool·beq, false≢true, true≢false, and-false}
 use mathlib.Core.List.{List}
 use native.Mathlib.Omega.{arith}
@@ -161,7 +161,7 @@ mtz-word : (a : ℕ) → is (zone a) MTZ ≡ true → a / 16 ≡ 85
 unfolding is zone all
 mtz-word a e =
     eqb-true (a / 16) 85
-    (everywhere (λ b. is (zone b) MTZ) (λ b. eqb (b / 16) 85) refl (λ b past q. absurd (false≢true (rw (← past-all b past) at q))) a e)
+    (everywhere (λ b. is (zone b) MTZ) (λ b. eqb (b / 16) 85) refl (λ b past q. cc (past-all b past)) a e)
 
 chosen-mild : (t u : Bool) (op : Operation) (z : Zone) → (not u || mild op z) ≡ true → mild (cond (t && u) op Nothing) z ≡ true
 unfolding mild
@@ -199,7 +199,7 @@ hidden-below : (b : ℕ) → hidden b ≡ true → b < 1360
 unfolding hidden between all
 hidden-below b h =
     ltb-true b 1360
-    (everywhere hidden (λ a. ltb a 1360) refl (λ a past q. absurd (true≢false (sym q ∙ hidden-past a (omega arith)))) b h)
+    (everywhere hidden (λ a. ltb a 1360) refl (λ a past q. cc (hidden-past a (omega arith))) b h)
 
 -- The MTZ word's erase leaves what is below it.
 erased-above : (m : List ℕ) (a b : ℕ) → a / 16 ≡ 85 → b < 1360 → bit (erasedWord m a) b ≡ bit m b
@@ -224,7 +224,7 @@ module _ (h : Held) (ec-en rst latch : Bool) (a : ℕ) (shut : h .sv ≡ false) 
   mild-keeps-hidden m b in-zone =
       cases (λ (o : Operation). bit (memoryAfter o a m) b ≡ bit m b) refl
       (λ (seen : hidden a ≡ false).
-      rw (bit-written m a b, ne-eqb a b (λ (q : a ≡ b). true≢false (sym in-zone ∙ (sym (ap hidden q) ∙ seen)))))
+      rw (bit-written m a b, ne-eqb a b (λ (q : a ≡ b). true≢false (cc))))
       (λ (w : a / 16 ≡ 85). erased-above m a b w (hidden-below b in-zone)) refl
 
   pub mild-keeps-zeros : (m : List ℕ) (b : ℕ) → b < 1360 → bit m b ≡ false → bit (memoryAfter op a m) b ≡ false

@@ -221,11 +221,11 @@ module _ (c : Card) (n : ℕ) (s : SoundCard c) (small : n < 64) where
   lasting : (w : Volatile) → Sound w → SoundCard (withVolatile c w)
   lasting w h = record { sized = s .sized; fused = s .fused; half = h }
 
-  abbrev rose : (x : Line) → edge now n ≡ Rises x → Moved x false now n
-  rose x e = edge-moves false x now n (s .half .levels) small e
+  abbrev rose : {x : Line} → edge now n ≡ Rises x → Moved x false now n
+  rose {x} e = edge-moves false x now n (s .half .levels) small e
 
-  abbrev fell : (x : Line) → edge now n ≡ Falls x → Moved x true now n
-  fell x e = edge-moves true x now n (s .half .levels) small e
+  abbrev fell : {x : Line} → edge now n ≡ Falls x → Moved x true now n
+  fell {x} e = edge-moves true x now n (s .half .levels) small e
 
   -- With VCC on, 9 asks for no more than its clauses on lines and address.
   on-sound :
@@ -247,18 +247,18 @@ module _ (c : Card) (n : ℕ) (s : SoundCard c) (small : n < 64) where
 
     -- Neither VCC nor CLK moves.
     lines-follow :
-        (x : Line) {was : Bool} → Moved x was now n → eqb (place VCC) (place x) ≡ false → eqb (place CLK) (place x) ≡ false →
+        {x : Line} {was : Bool} → Moved x was now n → eqb (place VCC) (place x) ≡ false → eqb (place CLK) (place x) ≡ false →
         (high CLK n ≡ true → high PGM n ≡ true → high PGM now ≡ true) → SoundCard (withVolatile c (follows n v))
     unfolding follows
-    lines-follow x m p q pgm =
+    lines-follow m p q pgm =
         let vcc : high VCC n ≡ true = m .others VCC p ∙ on in
         on-sound (follows n v) refl vcc (wired-kept vcc (m .others CLK q) pgm) (s .half .placed)
 
     -- Nor does PGM.
     plain-follow :
-        (x : Line) {was : Bool} → Moved x was now n → eqb (place VCC) (place x) ≡ false → eqb (place CLK) (place x) ≡ false →
+        {x : Line} {was : Bool} → Moved x was now n → eqb (place VCC) (place x) ≡ false → eqb (place CLK) (place x) ≡ false →
         eqb (place PGM) (place x) ≡ false → SoundCard (withVolatile c (follows n v))
-    plain-follow x m p q r = lines-follow x m p q (λ _ z. cc (m .others PGM r))
+    plain-follow m p q r = lines-follow m p q (λ _ z. cc (m .others PGM r))
 
     -- 6 keeps PGM down while CLK is high.
     pgm-rises : edgeRefusal (Rises PGM) now (v .programming) ≡ 0 → high CLK now ≡ true → ⊥
@@ -330,19 +330,19 @@ module _ (c : Card) (n : ℕ) (s : SoundCard c) (small : n < 64) where
     unfolding powered place
     by-edge Same e r = s
     by-edge Many e r = s
-    by-edge (Rises VCC) e r = absurd (true≢false (cc (rose VCC e .before)))
-    by-edge (Rises RST) e r = plain-follow RST (rose RST e) refl refl refl
-    by-edge (Rises CLK) e r = clk-rises (rose CLK e)
+    by-edge (Rises VCC) e r = absurd (true≢false (cc (rose e .before)))
+    by-edge (Rises RST) e r = plain-follow (rose e) refl refl refl
+    by-edge (Rises CLK) e r = clk-rises (rose e)
     by-edge (Rises PGM) e r =
-        lines-follow PGM (rose PGM e) refl refl (λ y _. absurd (pgm-rises r (cc (rose PGM e .others CLK refl))))
-    by-edge (Rises IO) e r = plain-follow IO (rose IO e) refl refl refl
-    by-edge (Rises FUS) e r = plain-follow FUS (rose FUS e) refl refl refl
-    by-edge (Falls VCC) e r = vcc-falls (fell VCC e)
-    by-edge (Falls RST) e r = rst-falls (fell RST e)
-    by-edge (Falls CLK) e r = clk-falls (fell CLK e)
-    by-edge (Falls PGM) e r = lines-follow PGM (fell PGM e) refl refl (λ _ z. cc (fell PGM e .after))
-    by-edge (Falls IO) e r = plain-follow IO (fell IO e) refl refl refl
-    by-edge (Falls FUS) e r = plain-follow FUS (fell FUS e) refl refl refl
+        lines-follow (rose e) refl refl (λ y _. absurd (pgm-rises r (cc (rose e .others CLK refl))))
+    by-edge (Rises IO) e r = plain-follow (rose e) refl refl refl
+    by-edge (Rises FUS) e r = plain-follow (rose e) refl refl refl
+    by-edge (Falls VCC) e r = vcc-falls (fell e)
+    by-edge (Falls RST) e r = rst-falls (fell e)
+    by-edge (Falls CLK) e r = clk-falls (fell e)
+    by-edge (Falls PGM) e r = lines-follow (fell e) refl refl (λ _ z. cc (fell e .after))
+    by-edge (Falls IO) e r = plain-follow (fell e) refl refl refl
+    by-edge (Falls FUS) e r = plain-follow (fell e) refl refl refl
 
   unpowered-follow :
       edgeRefusal (edge now n) now (v .programming) ≡ 0 → high VCC now ≡ false →

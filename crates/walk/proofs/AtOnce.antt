@@ -49,16 +49,15 @@ pub record Still (n : ℕ) : Type 0 where
   pub rst : digit 1 n ≡ false
   pub pgm : high PGM n ≡ false
 
-still-byte :
-    (n : ℕ) → n < 256 → bitAnd n 203 ≡ 1 →
-    (ltb n 64 && (eqb (bitAnd n 11) 1 && (digit 0 n && (not (digit 1 n) && not (digit 3 n))))) ≡ true
-unfolding all digit
-still-byte n h e =
-    below-then 256 (λ x. eqb (bitAnd x 203) 1)
-    (λ x. ltb x 64 && (eqb (bitAnd x 11) 1 && (digit 0 x && (not (digit 1 x) && not (digit 3 x))))) refl n h (eq-eqb (bitAnd n 203) 1 e)
+unfoldable stillAt : ℕ → Bool
+stillAt n = ltb n 64 && (eqb (bitAnd n 11) 1 && (digit 0 n && (not (digit 1 n) && not (digit 3 n))))
+
+still-byte : (n : ℕ) → n < 256 → bitAnd n 203 ≡ 1 → stillAt n ≡ true
+unfolding all digit stillAt
+still-byte n h e = below-then 256 (λ x. eqb (bitAnd x 203) 1) stillAt refl n h (eq-eqb (bitAnd n 203) 1 e)
 
 still : (n : ℕ) → n < 256 → bitAnd n 203 ≡ 1 → Still n
-unfolding high place
+unfolding high place stillAt
 still n h e = let a = still-byte n h e in search (and-left, and-right, ltb-true, eqb-true, not-true) depth 7
 
 -- The flags of a walk stand with these levels, and no programming is under way.
@@ -203,32 +202,19 @@ module _ (g : Given) (n : ℕ) where
 
   pub not-calm : calm (g .half) n ≡ false → as-it-came
   unfolding walkOf walks
-  not-calm e = rw (e, and-false (eqb (bitAnd n 203) 1))
+  not-calm e = simp (e, and-false)
 
   pub too-far : 1519 ≤ g .half .address → as-it-came
   unfolding walkOf walks
-  too-far h = rw (le-ltb (g .half .address) 1519 h, and-false (calm (g .half) n), and-false (eqb (bitAnd n 203) 1))
+  too-far h = simp (le-ltb (g .half .address) 1519 h, and-false)
 
   pub not-sized : (length (g .memory) ≡ bytes → ⊥) → as-it-came
   unfolding walkOf walks
-  not-sized h =
-      rw (
-        ne-eqb (length (g .memory)) bytes h,
-        and-false (ltb (g .half .address) 1519),
-        and-false (calm (g .half) n),
-        and-false (eqb (bitAnd n 203) 1),
-      )
+  not-sized h = simp (ne-eqb (length (g .memory)) bytes h, and-false)
 
   pub not-fused : 7 < g .fuses → as-it-came
   unfolding walkOf walks
-  not-fused h =
-      rw (
-        lt-leb (g .fuses) 7 h,
-        and-false (eqb (length (g .memory)) bytes),
-        and-false (ltb (g .half .address) 1519),
-        and-false (calm (g .half) n),
-        and-false (eqb (bitAnd n 203) 1),
-      )
+  not-fused h = simp (lt-leb (g .fuses) 7 h, and-false)
 
   pub all-passed :
       Calm g n →
