@@ -155,20 +155,6 @@ module _ {g : Given} {p : ℕ} (ready : Ready g p) (n : ℕ) where
           (cond-cases (λ (y : Edge). powered y n card ≡ withVolatile card (follows n w)) (high x l) (λ _. f) (λ _. r))
       go false h = off-goes t e h
 
-  -- Without VCC, with RST or with PGM high the pin is released, whatever else.
-  module _ (u : Halves.Volatile) where
-    unpowered-pin : high VCC (u .lines) ≡ false → pin (withVolatile card u) ≡ 1
-    unfolding pin pinValue driven
-    unpowered-pin e = rw e
-
-    reset-pin : high RST (u .lines) ≡ true → pin (withVolatile card u) ≡ 1
-    unfolding pin pinValue driven
-    reset-pin e = rw (e, and-false (high VCC (u .lines)))
-
-    program-pin : high PGM (u .lines) ≡ true → pin (withVolatile card u) ≡ 1
-    unfolding pin pinValue driven
-    program-pin e = simp (e, and-false)
-
   -- FUS.
   module _ (t : Turned FUS l n) where
     pub fus-refused : w .programming ≡ true → Steps g p n g p 3
@@ -243,8 +229,8 @@ module _ {g : Given} {p : ℕ} (ready : Ready g p) (n : ℕ) where
     vcc-falls h = on-goes t (rw h) h (rw h)
 
     off-pin : high VCC n ≡ false → pin (withVolatile card (off n)) ≡ 1
-    unfolding off
-    off-pin e = unpowered-pin (off n) e
+    unfolding off pin pinValue driven
+    off-pin e = rw e
 
     pub vcc-off : high VCC n ≡ false → Steps g p n (withHalf g (packed (off n))) 1 0
     vcc-off e =
@@ -292,13 +278,8 @@ module _ {g : Given} {p : ℕ} (ready : Ready g p) (n : ℕ) where
         off-goes t (rw h) h
 
     pub clk-unpowered-kept : high VCC n ≡ false → p ≡ pin (withVolatile card (follows n w))
-    unfolding follows unpacked
-    clk-unpowered-kept e = ready .pinned ∙ (unpowered-pin w (same-vcc e) ∙ sym (unpowered-pin (follows n w) e))
-
-    -- Its rise leaves the pin as it was with PGM low, and released with PGM high.
-    rising-pin : high PGM l ≡ false → w .programming ≡ false → pin card ≡ pin (withVolatile card (clkRises n w))
-    unfolding clkRises pin driven held place unpacked
-    rising-pin low q = rw (t .others VCC refl, t .others RST refl, t .others PGM refl, t .others FUS refl, low, q)
+    unfolding follows pin pinValue driven unpacked
+    clk-unpowered-kept e = ready .pinned ∙ rw (same-vcc e, e)
 
     module _ (on : high VCC n ≡ true) where
       module _ (up : high CLK n ≡ true) where
@@ -309,13 +290,14 @@ module _ {g : Given} {p : ℕ} (ready : Ready g p) (n : ℕ) where
         unfolding powered change
         clk-rises = on-goes t (simp (was-low, and-false)) (same-vcc on) (rw was-low)
 
+        -- The pin is as it was with PGM low, and released with PGM high.
         pub clk-rises-kept : p ≡ pin (withVolatile card (clkRises n w))
-        unfolding clkRises unpacked
+        unfolding clkRises pin driven held place unpacked
         clk-rises-kept = ready .pinned ∙ go (high PGM n) refl
           where
             go : (b : Bool) → high PGM n ≡ b → pin card ≡ pin (withVolatile card (clkRises n w))
-            go true h = program-pin w (same-pgm h) ∙ sym (program-pin (clkRises n w) h)
-            go false h = rising-pin (same-pgm h) (idle ready was-low)
+            go true h = simp (same-pgm h, h, and-false)
+            go false h = rw (t .others VCC refl, t .others RST refl, t .others FUS refl, h, same-pgm h, idle ready was-low)
 
       module _ (down : high CLK n ≡ false) (q : w .programming ≡ false) where
         was-high : high CLK l ≡ true
@@ -329,8 +311,8 @@ module _ {g : Given} {p : ℕ} (ready : Ready g p) (n : ℕ) where
         clk-reset r = on-goes t none-refused (same-vcc on) (rw (was-high, q, same-rst r))
 
         pub clk-reset-kept : high RST n ≡ true → p ≡ pin (withVolatile card (unlatched n (w .matched) w))
-        unfolding unlatched unpacked
-        clk-reset-kept r = ready .pinned ∙ (reset-pin w (same-rst r) ∙ sym (reset-pin (unlatched n (w .matched) w) r))
+        unfolding unlatched pin driven unpacked
+        clk-reset-kept r = ready .pinned ∙ simp (same-rst r, r, and-false)
 
         module _ (r : high RST n ≡ false) where
           is-clocked : powered (change CLK l) n card ≡ clocked n card

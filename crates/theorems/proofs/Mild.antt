@@ -58,10 +58,10 @@ unfolding every
 of-every test e true = search and-left
 of-every test e false = search and-right
 
-module _ (p1 r1 e1 mf : Bool) where
+module _ (h : Held) where
   -- What is there without SV.
   abbrev unopened : Bool → Bool → Bool → Held
-  unopened r fus iss = record { sv = false; p1 = p1; r1 = r; e1 = e1; mf = mf; iss = iss; fus = fus }
+  unopened r1 fus iss = record { sv = false; p1 = h .p1; r1 = r1; e1 = h .e1; mf = h .mf; iss = iss; fus = fus }
 
   abbrev reads : Zone → Bool → Bool → Bool
   reads z fus iss = Bool·beq (granted (rights (fus && iss) z .read) (unopened false fus iss)) (readable z)
@@ -71,7 +71,7 @@ module _ (p1 r1 e1 mf : Bool) where
 
   abbrev programs : Zone → Bool → Bool → Bool → Bool → Bool
   programs z fus iss latch bar =
-      Bool·beq (granted (asked (fus && iss) latch bar z) (unopened r1 fus iss)) (allowed (fus && iss) latch z) &&
+      Bool·beq (granted (asked (fus && iss) latch bar z) (unopened (h .r1) fus iss)) (allowed (fus && iss) latch z) &&
       (not (allowed (fus && iss) latch z) || mild (effect (fus && iss) latch z) z)
 
   abbrev agrees-at : Zone → Bool → Bool → Bool
@@ -99,39 +99,39 @@ module _ (p1 r1 e1 mf : Bool) where
   agreed FuseISS = refl
   agreed Gap = refl
 
-  module _ (fus iss : Bool) (z : Zone) where
-    agreed-at : agrees-at z fus iss ≡ true
-    unfolding agrees
-    agreed-at = of-every (agrees-at z fus) (of-every (λ f. every (agrees-at z f)) (agreed z) fus) iss
+  module _ (z : Zone) where
+    abbrev l1 : Bool
+    l1 = h .fus && h .iss
 
-    read-agrees : granted (rights (fus && iss) z .read) (unopened false fus iss) ≡ readable z
+    agreed-at : agrees-at z (h .fus) (h .iss) ≡ true
+    unfolding agrees
+    agreed-at = of-every (agrees-at z (h .fus)) (of-every (λ f. every (agrees-at z f)) (agreed z) (h .fus)) (h .iss)
+
+    read-agrees : granted (rights l1 z .read) (unopened false (h .fus) (h .iss)) ≡ readable z
     read-agrees = beq-true _ _ (and-left _ _ agreed-at)
 
-    programs-agree : (latch bar : Bool) → programs z fus iss latch bar ≡ true
-    programs-agree latch =
-        of-every (programs z fus iss latch)
-        (of-every (λ l. every (programs z fus iss l)) (and-right (reads z fus iss) _ agreed-at) latch)
+    module _ (latch bar : Bool) where
+      programs-agree : programs z (h .fus) (h .iss) latch bar ≡ true
+      programs-agree =
+          of-every (programs z (h .fus) (h .iss) latch)
+          (of-every (λ l. every (programs z (h .fus) (h .iss) l)) (and-right (reads z (h .fus) (h .iss)) _ agreed-at) latch) bar
 
-    program-agrees :
-        (latch bar : Bool) → granted (asked (fus && iss) latch bar z) (unopened r1 fus iss) ≡ allowed (fus && iss) latch z
-    program-agrees latch bar = beq-true _ _ (and-left _ _ (programs-agree latch bar))
+      program-agrees : granted (asked l1 latch bar z) (unopened (h .r1) (h .fus) (h .iss)) ≡ allowed l1 latch z
+      program-agrees = beq-true _ _ (and-left _ _ programs-agree)
 
-    effect-mild : (latch : Bool) → (not (allowed (fus && iss) latch z) || mild (effect (fus && iss) latch z) z) ≡ true
-    effect-mild latch =
-        and-right (Bool·beq (granted (asked (fus && iss) latch false z) (unopened r1 fus iss)) (allowed (fus && iss) latch z)) _
-        (programs-agree latch false)
+      effect-mild : (not (allowed l1 latch z) || mild (effect l1 latch z) z) ≡ true
+      effect-mild =
+          and-right (Bool·beq (granted (asked l1 latch bar z) (unopened (h .r1) (h .fus) (h .iss))) (allowed l1 latch z)) _ programs-agree
 
--- The same of whatever is there, SV being 0.
-without-sv :
-    (h : Held) (r1 : Bool) → h .sv ≡ false → h .r1 ≡ r1 → h ≡ unopened (h .p1) r1 (h .e1) (h .mf) r1 (h .fus) (h .iss)
-without-sv h r1 e f i =
-    record { sv = e i; p1 = h .p1; r1 = f i; e1 = h .e1; mf = h .mf; iss = h .iss; fus = h .fus }
+  -- The same of whatever is there, SV being 0.
+  without-sv : (r1 : Bool) → h .sv ≡ false → h .r1 ≡ r1 → h ≡ unopened r1 (h .fus) (h .iss)
+  without-sv r1 e f i = record { sv = e i; p1 = h .p1; r1 = f i; e1 = h .e1; mf = h .mf; iss = h .iss; fus = h .fus }
 
 -- What may be read without SV and R1, of the zone alone.
 pub mayRead-readable : (h : Held) (z : Zone) → h .sv ≡ false → h .r1 ≡ false → mayRead h z ≡ readable z
 unfolding mayRead level1
 mayRead-readable h z e f =
-    ap (λ (x : Held). mayRead x z) (without-sv h false e f) ∙ read-agrees (h .p1) false (h .e1) (h .mf) (h .fus) (h .iss) z
+    ap (λ (x : Held). mayRead x z) (without-sv h false e f) ∙ read-agrees h z
 
 -- What CLK's fall in programming carries out without SV, of level, RST, latch and zone alone.
 pub mildOperation : Bool → Bool → Bool → Zone → Operation
@@ -147,7 +147,7 @@ operation-mild h ec-en rst latch a e =
     let l1 : Bool = h .fus && h .iss in
     let bar : Bool = not l1 && (not ec-en && not (eqb a 1232)) in
     ap (λ (x : Held). operation x ec-en rst latch a) (without-sv h (h .r1) e refl) ∙
-    rw (program-agrees (h .p1) (h .r1) (h .e1) (h .mf) (h .fus) (h .iss) (zone a) latch bar)
+    rw (program-agrees h (zone a) latch bar)
 
 -- What is readable without SV is not hidden.
 pub readable-seen : (a : ℕ) → readable (zone a) ≡ true → hidden a ≡ false
@@ -176,7 +176,7 @@ unfolding mildOperation level1
 mild-operation h ec-en rst latch a e =
     rw (operation-mild h ec-en rst latch a e)
     (chosen-mild (Bool·beq rst (isFuse (zone a))) (allowed (h .fus && h .iss) latch (zone a)) _ (zone a)
-    (effect-mild (h .p1) (h .r1) (h .e1) (h .mf) (h .fus) (h .iss) (zone a) latch))
+    (effect-mild h (zone a) latch false))
 
 -- What holds of each of these holds of an operation without SV.
 module _
