@@ -1,7 +1,7 @@
 -- Demand 3: "Before the step at which either opens, their pin answers and refusals are equal and those three zones keep every bit."
 use Prim.Native.Nat.{ℕ, suc, _≤_}
 use mathlib.Core.Path.{_≡_, refl, sym, ap, _∙_}
-use mathlib.Core.Bool.{Bool, true, false, cond, not}
+use mathlib.Core.Bool.{cond}
 use mathlib.Core.List.{List, [], _∷_}
 use native.Mathlib.Omega.{arith}
 use lib.Dec.{eqb, ltb}
@@ -11,7 +11,7 @@ use Rattle.rules.specs.declared.Answer.{Answer}
 use Rattle.rules.specs.declared.Answer.the-variants.{Pin}
 use Rattle.rules.specs.Halves.{Card, off, fresh}
 use Rattle.rules.specs.Steps.{next, pin}
-use Rattle.rules.specs.Refusals.{refusal, stateRefusal, before-a-run, runRefusal, longest}
+use Rattle.rules.specs.Refusals.{refusal, runRefusal, longest}
 use Rattle.rules.specs.Card.{Ran, stepped, answered, checkedStep, run, checkedRun}
 use Rattle.rules.specs.Demands.{Concealed, Alike, after, answers, Unopened, ZonesKept, Hidden-before-opening}
 use Rattle.rules.specs.Demands.{UnopenedRun, Hidden-in-a-run}
@@ -170,40 +170,27 @@ hidden-before-opening c c′ ns start u u′ =
     search
 
 -- What refuses no run of k steps refuses none of fewer.
-fewer-steps : (c : Card) (room j k : ℕ) → j ≤ k → runRefusal c k room ≡ 0 → runRefusal c j room ≡ 0
+fewer-steps : (c : Card) (room j k : ℕ) → Passes c → j ≤ k → runRefusal c k room ≡ 0 → runRefusal c j room ≡ 0
 unfolding runRefusal
-fewer-steps c room j k fewer = go (eqb (stateRefusal c) 0)
-  where
-    bySteps : (steps : ℕ) → ℕ
-    bySteps steps = cond (ltb longest steps) 18 (cond (ltb room steps) 19 0)
-
-    go : (t : Bool) → cond (not t) (stateRefusal c) (bySteps k) ≡ 0 → cond (not t) (stateRefusal c) (bySteps j) ≡ 0
-    go false e = e
-    go true e =
-        let p = peel (ltb longest k) 17 (cond (ltb room k) 19 0) e in
-        let q = peel (ltb room k) 18 0 (p .1) in
-        rw (le-ltb longest j (omega (arith, ltb-false longest k (p .0))), le-ltb room j (omega (arith, ltb-false room k (q .0))))
-
--- What 10, 14 and 9 let pass is refused by 18 and 19 alone.
-passed-run : (c : Card) (steps room : ℕ) → Passes c → runRefusal c steps room ≡ before-a-run 0 steps room
-unfolding runRefusal
-passed-run c steps room p = ap (λ (k : ℕ). before-a-run k steps room) p
+fewer-steps c room j k passed fewer e =
+    let p = peel (ltb longest k) 17 (cond (ltb room k) 19 0) (rw passed at e) in
+    let q = peel (ltb room k) 18 0 (p .1) in
+    rw (passed, le-ltb longest j (omega (arith, ltb-false longest k (p .0))), le-ltb room j (omega (arith, ltb-false room k (q .0))))
 
 unopened-run :
-    (c : Card) (ns : List ℕ) (room : ℕ) → runRefusal c (length ns) room ≡ 0 → UnopenedRun c ns room → Unopened-in c ns
+    (c : Card) (ns : List ℕ) (room : ℕ) → Passes c → runRefusal c (length ns) room ≡ 0 → UnopenedRun c ns room → Unopened-in c ns
 unfolding UnopenedRun checkedRun
-unopened-run c ns room e u k = rw (fewer-steps c room (length (take k ns)) (length ns) (omega (arith, length-take k ns)) e) at (u k)
+unopened-run c ns room p e u k = rw (fewer-steps c room (length (take k ns)) (length ns) p (omega (arith, length-take k ns)) e) at (u k)
 
 pub hidden-in-a-run : Hidden-in-a-run
-unfolding checkedRun
-hidden-in-a-run c c′ ns room start u u′ =
-    record { same = all .same; refused = all .refused; kept = all .kept; kept′ = all .kept′ }
+unfolding checkedRun runRefusal
+hidden-in-a-run c c′ ns room start u u′ = search all
   where
     two : Two c c′ start c c′
     two = first-two c c′ start
 
     alike : runRefusal c (length ns) room ≡ runRefusal c′ (length ns) room
-    alike = passed-run c (length ns) room (two .one .passes) ∙ sym (passed-run c′ (length ns) room (two .other .passes))
+    alike = rw (two .one .passes, two .other .passes)
 
     all : Indistinct-runs c c′ start (checkedRun c ns room) (checkedRun c′ ns room)
     all =
@@ -211,5 +198,6 @@ hidden-in-a-run c c′ ns room start u u′ =
         (cond-both (Indistinct-runs c c′ start) (eqb (runRefusal c (length ns) room) 0)
         (λ t.
         let e = eqb-true (runRefusal c (length ns) room) 0 t in
-        indistinct-runs c c′ start c c′ ns two (unopened-run c ns room e u) (unopened-run c′ ns room (sym alike ∙ e) u′))
-        (λ _. record { same = refl; refused = refl; kept = λ a h. refl; kept′ = λ a h. refl }))
+        indistinct-runs c c′ start c c′ ns two (unopened-run c ns room (two .one .passes) e u)
+        (unopened-run c′ ns room (two .other .passes) (sym alike ∙ e) u′))
+        (λ _. search))

@@ -1,13 +1,12 @@
 -- A walk told at once: the tests before it let no other step pass, and what it tells is the step's own.
-use Prim.Native.Nat.{ℕ, _+_, _/_, _≤_, _<_}
+use Prim.Native.Nat.{ℕ, _+_, _/_, _<_}
 use native.Mathlib.Omega.{arith}
 use mathlib.Core.Path.{_≡_, refl, sym, ap, _∙_}
-use mathlib.Core.Bool.{Bool, true, false, cond, not, _&&_, _||_, and-false}
+use mathlib.Core.Bool.{Bool, true, false, cond, not, _&&_, _||_}
 use lib.Dec.{eqb, ltb}
-use lib.ListN.{length}
 use lib.Bits.{bitAnd, bitXor, xor-comm, and-le-r}
-use borrow.Author.Tests.{eqb-true, eq-eqb, ne-eqb, ltb-true, lt-ltb, le-ltb, leb-true, le-leb, lt-leb, not-true}
-use Rattle.memory.specs.Image.{bytes, digit, bit}
+use borrow.Author.Tests.{eqb-true, eq-eqb, ltb-true, lt-ltb, le-ltb, leb-true, not-true}
+use Rattle.memory.specs.Image.{digit, bit}
 use Rattle.memory.proofs.Below.{all, and-left, and-right}
 use Rattle.rules.specs.Halves as Halves
 use Rattle.rules.specs.Lines.{CLK, VCC, PGM, place, mask, high}
@@ -191,40 +190,3 @@ module _ (g : Given) (n : ℕ) where
       go : (b : Bool) → walks g n ≡ b → (givenRefusal g ≡ 0) × Steps g (pin (cardOf g)) n (withHalf g (w .volatile)) (w .pin) 0
       go true e = let p = all-pass byte e in (unrefused (p .0), rw (is, e) (steps-so (p .0) (p .1)))
       go false e = let same : w ≡ noWalk (g .half) = is ∙ rw e in absurd (other (ap (λ (x : Walked). x .pin) same))
-
-  -- Where a test fails there is no walk; where all pass the address decides.
-  abbrev as-it-came : Type 0
-  as-it-came = noWalk (g .half) ≡ walkOf g n
-
-  pub not-still : (bitAnd n 203 ≡ 1 → ⊥) → as-it-came
-  unfolding walkOf walks
-  not-still h = rw (ne-eqb (bitAnd n 203) 1 h)
-
-  pub not-calm : calm (g .half) n ≡ false → as-it-came
-  unfolding walkOf walks
-  not-calm e = simp (e, and-false)
-
-  pub too-far : 1519 ≤ g .half .address → as-it-came
-  unfolding walkOf walks
-  too-far h = simp (le-ltb (g .half .address) 1519 h, and-false)
-
-  pub not-sized : (length (g .memory) ≡ bytes → ⊥) → as-it-came
-  unfolding walkOf walks
-  not-sized h = simp (ne-eqb (length (g .memory)) bytes h, and-false)
-
-  pub not-fused : 7 < g .fuses → as-it-came
-  unfolding walkOf walks
-  not-fused h = simp (lt-leb (g .fuses) 7 h, and-false)
-
-  pub all-passed :
-      Calm g n →
-      cond (plainAt (walkedTo (g .half .address) n)) (walkTo (next (cardOf g) n)) (noWalk (g .half)) ≡ walkOf g n
-  unfolding walkOf walks
-  all-passed c =
-      rw (
-        eq-eqb (bitAnd n 203) 1 (c .still),
-        c .turns,
-        lt-ltb (g .half .address) 1519 (c .address),
-        eq-eqb (length (g .memory)) bytes (c .sized),
-        le-leb (g .fuses) 7 (c .fused),
-      )

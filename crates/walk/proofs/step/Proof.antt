@@ -1,28 +1,35 @@
 use native.Mathlib.Omega.{arith}
 use mathlib.Core.Path.{sym, _∙_}
-use borrow.Author.Tests.{not-true, not-false}
-use Rattle.walk.proofs.AtOnce.{not-still, not-calm, too-far, not-sized, not-fused, all-passed}
+use mathlib.Core.Bool.{and-false}
+use borrow.Author.Tests.{eq-eqb, ne-eqb, lt-ltb, le-ltb, le-leb, lt-leb, not-true, not-false}
+use Rattle.memory.specs.Image.{bytes}
+use Rattle.walk.specs.Contracts.{walks, walkOf}
 use borrow.Author.Needs.{needs}
 use Rattle.walk.proofs.step.Statement.{statement}
 use Rattle.walk.proofs.step.Tie as tie
 
 returns : tie.Need-returns
-returns c = rw (c .none .ensures) (not-still _ _ (c .before .if1 .taken))
+unfolding walkOf walks
+returns c = rw (c .none .ensures, ne-eqb _ 1 (c .before .if1 .taken))
 
 returns-2 : tie.Need-returns-2
+unfolding walkOf walks
 returns-2 c =
     let asked = c .before in
     let test = asked .before .is-calm in
-    rw (c .none2 .ensures) (not-calm _ _ (sym (test .ensures) ∙ not-true (test .result) (asked .if2 .taken)))
+    simp (c .none2 .ensures, sym (test .ensures) ∙ not-true (test .result) (asked .if2 .taken), and-false)
 
 returns-3 : tie.Need-returns-3
-returns-3 c = rw (c .none3 .ensures) (too-far _ _ (c .before .if3 .taken))
+unfolding walkOf walks
+returns-3 c = simp (c .none3 .ensures, le-ltb _ 1519 (c .before .if3 .taken), and-false)
 
 returns-4 : tie.Need-returns-4
-returns-4 c = rw (c .none4 .ensures) (not-sized _ _ (c .before .if4 .taken))
+unfolding walkOf walks
+returns-4 c = simp (c .none4 .ensures, ne-eqb _ bytes (c .before .if4 .taken), and-false)
 
 returns-5 : tie.Need-returns-5
-returns-5 c = rw (c .none5 .ensures) (not-fused _ _ (c .before .if5 .taken))
+unfolding walkOf walks
+returns-5 c = simp (c .none5 .ensures, lt-leb _ 7 (c .before .if5 .taken), and-false)
 
 comes-to-requires : tie.Need-comes-to-requires
 comes-to-requires c κs =
@@ -40,7 +47,17 @@ comes-to-requires c κs =
     }
 
 returns-6 : tie.Need-returns-6
-returns-6 c = rw (c .comes-to .ensures) (all-passed _ _ (comes-to-requires (c .before) (c .comes-to .lifetimes)))
+unfolding walkOf walks
+returns-6 c =
+    let calm = comes-to-requires (c .before) (c .comes-to .lifetimes) in
+    rw (
+      c .comes-to .ensures,
+      eq-eqb _ 1 (calm .still),
+      calm .turns,
+      lt-ltb _ 1519 (calm .address),
+      eq-eqb _ bytes (calm .sized),
+      le-leb _ 7 (calm .fused),
+    )
 
 pub step-spec : {M : Type 1} → statement M
 step-spec =
