@@ -2,11 +2,11 @@
 use Prim.Native.Nat.{ℕ, _+_, _-_, _≤_, _<_}
 use native.Mathlib.Omega.{arith}
 use native.Mathlib.Decide.{decLt}
-use mathlib.Core.Path.{_≡_, refl, sym, ap, _∙_}
+use mathlib.Core.Path.{_≡_, refl, sym, _∙_}
 use mathlib.Core.Bool.{Bool, true, false, not, _||_, Bool·beq, false≢true}
 use lib.Dec.{eqb, ltb}
 use lib.Bits.{bitAnd}
-use borrow.Author.Tests.{eqb-true, eqb-false, eq-eqb, ne-eqb, ltb-true, lt-ltb, le-ltb, not-true}
+use borrow.Author.Tests.{eqb-true, eqb-false, ne-eqb, ltb-true, lt-ltb, le-ltb, not-true}
 use Rattle.memory.specs.Image.{digit, bit}
 use Rattle.memory.proofs.Below.{all, below}
 use Rattle.rules.specs.Halves as Halves
@@ -58,27 +58,22 @@ module _ (a flags : ℕ) where
     unfolding all plainAt between
     in-az = over-range 178 1021 true refl a low (omega arith)
 
-    az-read :
-        (fuses : ℕ) (v : Halves.Volatile) → v .sv ≡ digit 0 flags → v .r1 ≡ digit 2 flags →
-        mayRead (held fuses v) (zone a) ≡ not (eqb (bitAnd flags 5) 0)
+    az : {r : ℕ} → r < 2 → not (eqb (bitAnd flags 5) 0) ≡ eqb r 1 → Shows a flags r
     unfolding held
-    az-read fuses v sv r1 = rw (az-readable (held fuses v) a (omega arith) (omega arith), sv, r1) (sym (sv-or-r1 flags))
+    az {r} less e =
+        record {
+          plain = in-az ∙ sym (lt-ltb r 2 less);
+          small = omega arith;
+          read =
+              λ _ fuses v sv r1.
+              rw (az-readable (held fuses v) a (omega arith) (omega arith), sv, r1) (sym (sv-or-r1 flags) ∙ e);
+        }
 
     pub az-shown : (bitAnd flags 5 ≡ 0 → ⊥) → Shows a flags 1
-    az-shown h =
-        record {
-          plain = in-az;
-          small = omega arith;
-          read = λ _ fuses v sv r1. az-read fuses v sv r1 ∙ ap not (ne-eqb (bitAnd flags 5) 0 h);
-        }
+    az-shown h = az (omega arith) (rw (ne-eqb (bitAnd flags 5) 0 h))
 
     pub az-not-shown : bitAnd flags 5 ≡ 0 → Shows a flags 0
-    az-not-shown h =
-        record {
-          plain = in-az;
-          small = omega arith;
-          read = λ _ fuses v sv r1. az-read fuses v sv r1 ∙ ap not (eq-eqb (bitAnd flags 5) 0 h);
-        }
+    az-not-shown h = az (omega arith) (rw h)
 
 -- Demand 1: one answer alone tells what the pin shows.
 by-ones : (r r′ : ℕ) → r < 2 → r′ < 2 → eqb r 1 ≡ eqb r′ 1 → r ≡ r′

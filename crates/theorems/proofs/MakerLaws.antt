@@ -2,8 +2,8 @@
 use Prim.Native.Nat.{ℕ, zero, suc, _+_, _*_}
 use native.Mathlib.Omega.{arith}
 use mathlib.Core.Path.{_≡_, refl, ap}
-use mathlib.Core.Bool.{Bool, true, false}
-use mathlib.Core.List.{List, [], _∷_, _++_}
+use mathlib.Core.Bool.{Bool}
+use mathlib.Core.List.{List, [], _∷_}
 use lib.ListN.{length, length-append}
 use Rattle.rules.specs.Maker.{reset, walk, digits, showBits, show, program, zerosBefore, open-card}
 
@@ -38,13 +38,7 @@ length-program : (fus d : Bool) → length (program fus d) ≡ 6
 unfolding program
 length-program fus d = refl
 
--- "reset, walk 80, show, walk k, write, erase"
-length-parts : (fus : Bool) (code k : ℕ) →
-    length (reset fus ++ (walk fus 80 ++ (show fus 16 code ++ (walk fus k ++ (program fus false ++ program fus true))))) ≡ 223 + 2 * k
-length-parts fus code k =
-    simp (length-append, length-reset, length-walk, length-show, length-program) (omega arith)
-
--- "open with a code and the byte of bits 96 to 103: .. 223 + 2k steps."
+-- "open with a code and the byte of bits 96 to 103: reset, walk 80, show, walk k, write, erase; 223 + 2k steps."
 pub length-open : (fus : Bool) (code attempts : ℕ) → length (open-card fus code attempts) ≡ 223 + 2 * zerosBefore 8 attempts
 unfolding open-card
-length-open fus code attempts = length-parts fus code (zerosBefore 8 attempts)
+length-open fus code attempts = simp (length-append, length-reset, length-walk, length-show, length-program) (omega arith)

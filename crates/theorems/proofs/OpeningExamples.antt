@@ -35,25 +35,26 @@ card fus fuses =
 
 is-idle : (fus : Bool) (fuses : ℕ) → fuses ≤ 7 → Idle fus (card fus fuses)
 unfolding the-card idle
-is-idle true fuses h = record { sized = refl; fused = h; sound = refl; lines = refl; unopened = refl }
-is-idle false fuses h = record { sized = refl; fused = h; sound = refl; lines = refl; unopened = refl }
+is-idle true fuses h = search
+is-idle false fuses h = search
 
-try-left : (fus : Bool) (fuses : ℕ) → firstTry (card fus fuses) < 104
-unfolding zerosBefore the-card
-try-left fus fuses = omega arith
+module _ (fus : Bool) (fuses : ℕ) where
+  try-left : firstTry (card fus fuses) < 104
+  unfolding zerosBefore the-card
+  try-left = omega arith
 
--- It is not the first bit of the word.
-pub first-is-99 : (fus : Bool) (fuses : ℕ) → firstTry (card fus fuses) ≡ 99
-unfolding zerosBefore the-card
-first-is-99 fus fuses = refl
+  -- It is not the first bit of the word.
+  pub first-is-99 : firstTry (card fus fuses) ≡ 99
+  unfolding zerosBefore the-card
+  first-is-99 = refl
 
-right : (fus : Bool) (fuses : ℕ) → CodeIsRight 0x1234 (card fus fuses)
-unfolding digits bitsFrom the-card
-right fus fuses = refl
+  right : CodeIsRight 0x1234 (card fus fuses)
+  unfolding digits bitsFrom the-card
+  right = refl
 
-wrong : (fus : Bool) (fuses : ℕ) → CodeIsRight 0x1235 (card fus fuses) → ⊥
-unfolding digits bitsFrom the-card
-wrong fus fuses e = true≢false (ap (λ (bs : List Bool). getD bs 15 true) e)
+  wrong : CodeIsRight 0x1235 (card fus fuses) → ⊥
+  unfolding digits bitsFrom the-card
+  wrong e = true≢false (ap (λ (bs : List Bool). getD bs 15 true) e)
 
 -- What the maker's steps with this code come to, with FUS high and with FUS low: SV, and the byte of bits 96 to 103.
 pub record Shows (fuses code : ℕ) (opened : Bool) (tries : ℕ) (fus : Bool) : Type 0 where

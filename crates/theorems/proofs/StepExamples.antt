@@ -1,6 +1,6 @@
 -- Demand 1 and the state check speak of something: a refused step, 01's case S, and a match that has to end.
 use Prim.Native.Nat.{ℕ}
-use mathlib.Core.Path.{_≡_, refl}
+use mathlib.Core.Path.{_≡_}
 use mathlib.Core.Bool.{Bool, true, false}
 use mathlib.Core.List.{List, [], _∷_}
 use lib.ListN.{replicate}
@@ -26,7 +26,7 @@ pub record Two-lines-at-once : Type 0 where
 
 pub two-lines-at-once : Two-lines-at-once
 unfolding the-card refusalIn
-two-lines-at-once = record { refused = refl; accepted = refl; follows = refl }
+two-lines-at-once = search
 
 pub record Stops-at-the-eighth : Type 0 where
   pub seven : done (checkedRun caseS steps 8) ≡ 7
@@ -35,7 +35,7 @@ pub record Stops-at-the-eighth : Type 0 where
 
 pub stops-at-the-eighth : Stops-at-the-eighth
 unfolding the-card
-stops-at-the-eighth = record { seven = refl; number = refl; lines = refl }
+stops-at-the-eighth = search
 
 -- CLK is high, the code was shown, and it is about to move on to 104.
 abbrev at : ℕ → Bool → Card
@@ -62,4 +62,4 @@ pub record Match-has-to-end : Type 0 where
 
 pub match-has-to-end : Match-has-to-end
 unfolding the-card
-match-has-to-end = record { sound = refl; accepted = refl; moves = refl; ends = refl; refused = refl }
+match-has-to-end = search
