@@ -17,7 +17,7 @@ use Rattle.rules.specs.Match.{arrived}
 use Rattle.rules.specs.Steps.{follows, withVolatile, vccFalls, clkRises, rstFalls, unlatched, clocked, clkFalls, powered, next}
 use Rattle.rules.specs.Steps.{driven, pinValue, pin}
 use Rattle.theorems.proofs.Tests.{cond-cases, neither-left, neither-right, edge-same}
-use Rattle.theorems.proofs.Soundness.{Sound, sound}
+use Rattle.theorems.proofs.Soundness.{Sound, sound, under-way}
 use Rattle.volatile.specs.declared.Volatile.{Volatile}
 use Rattle.volatile.specs.Packed.{packed, unpacked, Given, cardOf, handedBack, withHalf, programmedCard, madeUpWord}
 use Rattle.volatile.proofs.Packing.{unpacked-packed, packed-unpacked}
@@ -68,12 +68,12 @@ module _ {g : Given} {p : ℕ} (ready : Ready g p) where
   -- With CLK low no programming is under way.
   pub idle : high CLK (g .half .lines) ≡ false → unpacked (g .half) .programming ≡ false
   unfolding unpacked
-  idle k = off-then (unpacked (g .half) .programming) (high CLK (g .half .lines)) (half-sound .wired .under-way) k
+  idle k = off-then (unpacked (g .half) .programming) (high CLK (g .half .lines)) (under-way half-sound) k
 
   -- In programming CLK is high and VCC on.
   pub clock-high : unpacked (g .half) .programming ≡ true → high CLK (g .half .lines) ≡ true
   unfolding unpacked
-  clock-high q = half-sound .wired .under-way q
+  clock-high q = under-way half-sound q
 
   pub power-on : unpacked (g .half) .programming ≡ true → high VCC (g .half .lines) ≡ true
   unfolding unpacked

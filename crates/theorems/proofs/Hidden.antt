@@ -16,7 +16,7 @@ use Rattle.rules.specs.Card.{Ran, stepped, answered, checkedStep, run, checkedR
 use Rattle.rules.specs.Demands.{Concealed, Alike, after, answers, Unopened, ZonesKept, Hidden-before-opening}
 use Rattle.rules.specs.Demands.{UnopenedRun, Hidden-in-a-run}
 use Rattle.theorems.proofs.Tests.{peel}
-use Rattle.theorems.proofs.StepCases.{way, stepped-moves, same-way, same-refusal, accepted}
+use Rattle.theorems.proofs.StepCases.{wayOf, stepped-moves, same-way, same-refusal, accepted}
 use Rattle.theorems.proofs.CheckedSteps.{Passes, fresh-passes, passes-on, checked-step, checked-answer}
 use Rattle.theorems.proofs.AlikeCards.{Closed, Alike-cards, Unopened-card, closed-moved, alike-moved, cond-both, same-pin}
 
@@ -47,7 +47,7 @@ module _ (s : Card) (start : Concealed s) where
   held-on c n shut p =
       record {
         passes = passes-on c n (p .passes);
-        closed = rw (stepped-moves c n) (closed-moved s (start .unreadable) c n shut (p .closed) (way (c .volatile) n));
+        closed = rw (stepped-moves c n) (closed-moved s (start .unreadable) c n shut (p .closed) (wayOf c n));
       }
 
 module _ (s s′ : Card) (start : Alike s s′) where
@@ -66,9 +66,9 @@ module _ (s s′ : Card) (start : Alike s s′) where
               rw (
                 stepped-moves c n,
                 stepped-moves c′ n,
-                ← same-way (c .volatile) (c′ .volatile) n (p .alike .lines) (p .alike .programming),
+                ← same-way n (p .alike .lines) (p .alike .programming),
               )
-              (alike-moved c c′ shut shut′ (p .alike) n (way (c .volatile) n));
+              (alike-moved c c′ shut shut′ (p .alike) n (wayOf c n));
         }
 
     refused-alike : refusal (c .volatile) n ≡ refusal (c′ .volatile) n

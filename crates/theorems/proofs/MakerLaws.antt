@@ -5,12 +5,7 @@ use mathlib.Core.Path.{_≡_, refl, ap}
 use mathlib.Core.Bool.{Bool}
 use mathlib.Core.List.{List, [], _∷_}
 use lib.ListN.{length, length-append}
-use Rattle.rules.specs.Maker.{reset, walk, digits, showBits, show, program, zerosBefore, open-card}
-
--- "reset: RST up, down; 2 steps."
-length-reset : (fus : Bool) → length (reset fus) ≡ 2
-unfolding reset
-length-reset fus = refl
+use Rattle.rules.specs.Maker.{walk, digits, showBits, show, zerosBefore, open-card}
 
 -- "Walk n (0 to 1519): CLK up, down; 2n."
 pub length-walk : (fus : Bool) (n : ℕ) → length (walk fus n) ≡ 2 * n
@@ -33,12 +28,7 @@ pub length-show : (fus : Bool) (width x : ℕ) → length (show fus width x) ≡
 unfolding show
 length-show fus width x = rw (length-shown fus (digits width x), length-digits width x)
 
--- "program d: PGM up, I/O d, CLK up, PGM down, I/O 1, CLK down; 6."
-length-program : (fus d : Bool) → length (program fus d) ≡ 6
-unfolding program
-length-program fus d = refl
-
 -- "open with a code and the byte of bits 96 to 103: reset, walk 80, show, walk k, write, erase; 223 + 2k steps."
 pub length-open : (fus : Bool) (code attempts : ℕ) → length (open-card fus code attempts) ≡ 223 + 2 * zerosBefore 8 attempts
 unfolding open-card
-length-open fus code attempts = simp (length-append, length-reset, length-walk, length-show, length-program) (omega arith)
+length-open fus code attempts = simp (length-append, length-walk) (omega arith)

@@ -19,7 +19,7 @@ use Rattle.rules.specs.Zones.{between, zone, row, isFuse}
 use Rattle.rules.specs.Rights.{Held, level1, granted, rights, mayRead, no}
 use Rattle.rules.specs.Programming.{barred, asks, mayProgram, effect, operation, memoryAfter, turns, opens}
 use Rattle.rules.specs.Demands.{hidden}
-use Rattle.theorems.proofs.Tests.{all, beq-true, and-left, and-right}
+use Rattle.theorems.proofs.Tests.{all, beq-true, and-left, and-right, every, of-every}
 use Rattle.rules.proofs.PastLast.{past-all}
 use Rattle.theorems.proofs.ZoneCases.{hidden-past, everywhere}
 
@@ -48,15 +48,6 @@ mild EraseBlock z = false
 mild BlowMF z = false
 mild BlowECEN z = true
 mild BlowISS z = false
-
--- A test holds of both Booleans.
-every : (Bool → Bool) → Bool
-every test = test true && test false
-
-of-every : (test : Bool → Bool) → every test ≡ true → (b : Bool) → test b ≡ true
-unfolding every
-of-every test e true = search and-left
-of-every test e false = search and-right
 
 module _ (h : Held) where
   -- What is there without SV.

@@ -17,7 +17,7 @@ use Rattle.rules.specs.Card.{Ran, stepped, checkedRun}
 use Rattle.rules.specs.Demands.{NoTryLeft, Shut-for-good, Shut-in-a-run}
 use Rattle.theorems.proofs.Tests.{cond-cases}
 use Rattle.theorems.proofs.StepCases.{Way, Keeps, Follows, Latches, SwitchesOff, Resets, Programs, Unlatches, Clocks}
-use Rattle.theorems.proofs.StepCases.{moved, way, operationOf, stepped-moves, after-keeps, run-keeps}
+use Rattle.theorems.proofs.StepCases.{moved, wayOf, operationOf, stepped-moves, after-keeps, run-keeps}
 use Rattle.theorems.proofs.Between.{bounds}
 use Rattle.theorems.proofs.Mild.{mild-keeps-zeros, mild-shuts}
 
@@ -47,7 +47,7 @@ shut-moved c n p Unlatches = search
 shut-moved c n p Clocks = search
 
 shut-stepped : (c : Card) (n : ℕ) → Shut c → Shut (stepped c n)
-shut-stepped c n p = rw (stepped-moves c n) (shut-moved c n p (way (c .volatile) n))
+shut-stepped c n p = rw (stepped-moves c n) (shut-moved c n p (wayOf c n))
 
 no-try-left : (c : Card) (levels : ℕ) → NoTryLeft c levels → Shut c
 unfolding off

@@ -1,29 +1,31 @@
 -- 01: "A state that 9 lets pass never leads to one that 9 refuses." By cases on the edge.
 use Prim.Native.Nat.{ℕ, zero, suc, _≤_, _<_, _/_}
 use mathlib.Core.Path.{_≡_, refl, ap, _∙_}
-use mathlib.Core.Bool.{Bool, true, false, cond, not, _&&_, _||_, true≢false, and-false, or-true}
+use mathlib.Core.Bool.{Bool, true, false, cond, not, _&&_, _||_}
 use mathlib.Core.List.{List}
 use native.Mathlib.Omega.{arith}
 use lib.Dec.{eqb, leb, ltb}
 use lib.ListN.{length}
-use borrow.Author.Tests.{ltb-false, le-ltb, eqb-true, eq-eqb, not-false, leb-true}
+use borrow.Author.Tests.{ltb-false, le-ltb, eqb-true, eq-eqb, not-true, not-false, leb-true}
 use Rattle.memory.specs.Image.{bytes, digit, cleared, bit}
 use Rattle.memory.proofs.Laws.{length-written, length-erased, length-filled}
 use Rattle.rules.specs.declared.Operation.{Operation}
 use Rattle.rules.specs.declared.Operation.the-variants.{Nothing, WriteBit, EraseWord, EraseZone}
 use Rattle.rules.specs.declared.Operation.the-variants.{WriteBlock, EraseBlock, BlowMF, BlowECEN, BlowISS}
 use Rattle.rules.specs.Halves.{Volatile, Card, off, blown, EC-EN, unblown}
-use Rattle.rules.specs.Lines.{Line, VCC, RST, CLK, PGM, IO, FUS, place, high, Edge, Same, Rises, Falls, Many, edge}
+use Rattle.rules.specs.Lines.{VCC, CLK, PGM, IO, high}
 use Rattle.rules.specs.Zones.{between, last}
 use Rattle.rules.specs.Rights.{held, level1}
 use Rattle.rules.specs.Programming.{memoryAfter, fusesAfter}
 use Rattle.rules.specs.Match.{compared, following, endsMatch}
-use Rattle.rules.specs.Steps.{follows, withVolatile, vccFalls, clkRises, rstFalls, programmed, unlatched, clocked, clkFalls}
-use Rattle.rules.specs.Steps.{powered, next}
-use Rattle.rules.specs.Refusals.{edgeRefusal, refusal, anySet, madeUp, stateRefusal}
+use Rattle.rules.specs.Steps.{follows, withVolatile, vccFalls, clkRises, rstFalls, programmed, unlatched, clocked, next}
+use Rattle.rules.specs.Refusals.{lineRefusal, refusal, anySet, madeUp, stateRefusal}
 use Rattle.rules.specs.Demands.{Sound-stays-sound}
 use Rattle.theorems.proofs.ZoneCases.{addressed}
-use Rattle.theorems.proofs.Tests.{cond-cases, peel, neither-left, neither-right, guarded, unguarded, all, below₂, Moved, edge-moves}
+use Rattle.theorems.proofs.Tests.{and-left, and-right, peel, neither-left, neither-right, guarded, unguarded}
+use Rattle.theorems.proofs.Tests.{every, of-every, all, below₂}
+use Rattle.theorems.proofs.StepCases.{Way, Keeps, Follows, Latches, SwitchesOff, Resets, Programs, Unlatches, Clocks}
+use Rattle.theorems.proofs.StepCases.{operationOf, moved, way, wayOf, stepped-moves, accepted}
 
 -- Where match may hold, and E1.
 unfoldable pub mayMatch : ℕ → Bool
@@ -33,10 +35,10 @@ unfoldable pub mayE1 : ℕ → Bool
 mayE1 a = between 1232 1519 a
 
 -- 9's clauses on the latch and programming, at these levels.
-pub record Wired (lines : ℕ) (latch programming : Bool) : Type 0 where
-  pub latched : latch ≡ true → high CLK lines ≡ true
-  pub under-way : programming ≡ true → high CLK lines ≡ true
-  pub started : high VCC lines ≡ true → high CLK lines ≡ true → high PGM lines ≡ true → programming ≡ true
+unfoldable pub unwired : ℕ → Bool → Bool → Bool
+unwired lines latch programming =
+    latch && not (high CLK lines) ||
+    (programming && not (high CLK lines) || high VCC lines && (high CLK lines && (high PGM lines && not programming)))
 
 -- 9's clauses on the address.
 pub record Placed (a : ℕ) (matched e1 : Bool) : Type 0 where
@@ -47,19 +49,22 @@ pub record Placed (a : ℕ) (matched e1 : Bool) : Type 0 where
 pub record Sound (v : Volatile) : Type 0 where
   pub levels : v .lines < 64
   pub unpowered : (not (high VCC (v .lines)) && anySet v) ≡ false
-  pub wired : Wired (v .lines) (v .latch) (v .programming)
+  pub wired : unwired (v .lines) (v .latch) (v .programming) ≡ false
   pub placed : Placed (v .address) (v .matched) (v .e1)
 
 ruleset chain = (neither-left, neither-right, unguarded, not-false)
 
+none-of : (a b c : Bool) → a ≡ false → b ≡ false → c ≡ false → (a || (b || c)) ≡ false
+none-of a b c p q r = cc
+
 -- What 9 lets pass is sound.
 pub sound : (v : Volatile) → madeUp v ≡ false → Sound v
-unfolding madeUp mayMatch mayE1
+unfolding madeUp unwired mayMatch mayE1
 sound v e =
     record {
       levels = omega (arith, ltb-false 63 (v .lines) (search chain));
       unpowered = search chain;
-      wired = record { latched = λ q. search chain; under-way = λ q. search chain; started = λ x y z. search chain };
+      wired = search (chain, none-of);
       placed =
           record {
             within = search (chain, ltb-false);
@@ -68,20 +73,24 @@ sound v e =
           };
     }
 
+-- In programming CLK is high.
+pub under-way : {v : Volatile} → Sound v → v .programming ≡ true → high CLK (v .lines) ≡ true
+unfolding unwired
+under-way {v} s q = let wired = s .wired in search chain
+
 -- 9 lets pass what is sound.
 pub unmade : (v : Volatile) → Sound v → madeUp v ≡ false
-unfolding madeUp mayMatch mayE1
+unfolding madeUp unwired mayMatch mayE1
 unmade v s =
-    let l = v .lines in
-    let w = s .wired in
     let p = s .placed in
+    let low = not (high CLK (v .lines)) in
+    let w = neither-right (v .latch && low) _ (s .wired) in
     cc (
-      le-ltb 63 l (omega (arith, s .levels)),
+      le-ltb 63 (v .lines) (omega (arith, s .levels)),
       le-ltb last (v .address) (p .within),
-      guarded (v .latch) (not (high CLK l)) (λ q. ap not (w .latched q)),
-      guarded (v .programming) (not (high CLK l)) (λ q. ap not (w .under-way q)),
-      guarded (high VCC l) _
-          (λ x. guarded (high CLK l) _ (λ y. guarded (high PGM l) (not (v .programming)) (λ z. ap not (w .started x y z)))),
+      neither-left (v .latch && low) _ (s .wired),
+      neither-left (v .programming && low) _ w,
+      neither-right (v .programming && low) _ w,
       guarded (v .matched) (not (mayMatch (v .address))) (λ q. ap not (p .matching q)),
       guarded (v .e1) (not (mayE1 (v .address))) (λ q. ap not (p .e1-held q)),
     )
@@ -108,11 +117,6 @@ pub passes : (c : Card) → SoundCard c → stateRefusal c ≡ 0
 unfolding stateRefusal
 passes c s =
     cc (eq-eqb (length (c .memory)) bytes (s .sized), le-ltb 7 (c .fuses) (s .fused), unmade (c .volatile) (s .half))
-
--- Nothing is latched and no programming is under way, VCC or CLK being low.
-idle-wired : (n : ℕ) → (high VCC n ≡ true → high CLK n ≡ false) → Wired n false false
-idle-wired n e =
-    record { latched = λ q. cc; under-way = λ q. cc; started = λ x y z. cc (e x) }
 
 -- Address 0, where match and E1 have ended.
 at-zero : Placed 0 false false
@@ -200,181 +204,97 @@ programmed-lasting BlowMF a m f h = let less = cleared-le 0 f in search arith
 programmed-lasting BlowECEN a m f h = let less = cleared-le 1 f in search arith
 programmed-lasting BlowISS a m f h = let less = cleared-le 2 f in search arith
 
--- 7 keeps VCC down while CLK or PGM is high.
-unready : ℕ → ℕ → Bool
-unready levels n =
-    not (not (high VCC levels) && (high VCC n && (high CLK n && high PGM n))) || not (eqb (edgeRefusal (edge levels n) levels false) 0)
+-- What a way leaves stands with the levels n: of VCC, and of latch and programming.
+wiredBy : Way → ℕ → ℕ → Bool → Bool → Bool
+wiredBy Keeps levels n latch programming = true
+wiredBy Follows levels n latch programming = (high VCC n || not (high VCC levels)) && not (unwired n latch programming)
+wiredBy Latches levels n latch programming = high VCC n && not (unwired n (high IO n) (high PGM n))
+wiredBy SwitchesOff levels n latch programming = not (unwired n false false)
+wiredBy Resets levels n latch programming = high VCC n && not (unwired n latch programming)
+wiredBy Programs levels n latch programming = high VCC n && not (unwired n false false)
+wiredBy Unlatches levels n latch programming = high VCC n && not (unwired n false false)
+wiredBy Clocks levels n latch programming = high VCC n && not (unwired n false false)
 
-vcc-rises : (levels n : ℕ) → levels < 64 → n < 64 → unready levels n ≡ true
-unfolding unready digit edge edgeRefusal all
-vcc-rises = below₂ 64 64 unready refl
+-- So every accepted step of wired levels does, which with VCC off have neither latch nor programming.
+staysWired : ℕ → ℕ → Bool → Bool → Bool
+staysWired levels n programming latch =
+    not (eqb (lineRefusal levels programming n) 0) ||
+    (unwired levels latch programming ||
+    (not (high VCC levels) && (latch || programming) || wiredBy (way levels programming n) levels n latch programming))
+
+stays-wired : (levels n : ℕ) → levels < 64 → n < 64 → (programming latch : Bool) → staysWired levels n programming latch ≡ true
+unfolding staysWired wiredBy unwired way every all digit
+stays-wired levels n h k programming =
+    of-every (staysWired levels n programming)
+    (of-every (λ p. every (staysWired levels n p))
+    (below₂ 64 64 (λ l m. every (λ p. every (staysWired l m p))) refl levels n h k) programming)
 
 module _ (c : Card) (n : ℕ) (s : SoundCard c) (small : n < 64) where
   abbrev v : Volatile
   v = c .volatile
 
-  -- The present levels.
-  abbrev now : ℕ
-  now = v .lines
-
   -- Memory and fuses are as they were.
   lasting : (w : Volatile) → Sound w → SoundCard (withVolatile c w)
   lasting w h = record { sized = s .sized; fused = s .fused; half = h }
 
-  abbrev rose : {x : Line} → edge now n ≡ Rises x → Moved x false now n
-  rose {x} e = edge-moves false x now n (s .half .levels) small e
-
-  abbrev fell : {x : Line} → edge now n ≡ Falls x → Moved x true now n
-  fell {x} e = edge-moves true x now n (s .half .levels) small e
-
   -- With VCC on, 9 asks for no more than its clauses on lines and address.
   on-sound :
-      (w : Volatile) → w .lines ≡ n → high VCC n ≡ true → Wired n (w .latch) (w .programming) →
+      (w : Volatile) → w .lines ≡ n → (high VCC n && not (unwired n (w .latch) (w .programming))) ≡ true →
       Placed (w .address) (w .matched) (w .e1) → SoundCard (withVolatile c w)
-  on-sound w l p wired placed = lasting w (record { levels = rw l small; unpowered = cc; wired = rw l wired; placed = placed })
+  on-sound w l k placed =
+      lasting w
+      (record {
+        levels = rw l small;
+        unpowered = cc (and-left (high VCC n) _ k);
+        wired = rw l (not-true _ (and-right (high VCC n) _ k));
+        placed = placed;
+      })
 
-  module _ (on : high VCC now ≡ true) where
-    -- VCC stays on, CLK stays, and PGM does not come up under it.
-    wired-kept :
-        high VCC n ≡ true → high CLK n ≡ high CLK now → (high CLK n ≡ true → high PGM n ≡ true → high PGM now ≡ true) →
-        Wired n (v .latch) (v .programming)
-    wired-kept vcc clk pgm =
-        record {
-          latched = λ q. clk ∙ s .half .wired .latched q;
-          under-way = λ q. clk ∙ s .half .wired .under-way q;
-          started = λ x y z. s .half .wired .started on (cc) (pgm y z);
-        }
-
-    -- Neither VCC nor CLK moves.
-    lines-follow :
-        {x : Line} {was : Bool} → Moved x was now n → eqb (place VCC) (place x) ≡ false → eqb (place CLK) (place x) ≡ false →
-        (high CLK n ≡ true → high PGM n ≡ true → high PGM now ≡ true) → SoundCard (withVolatile c (follows n v))
-    unfolding follows
-    lines-follow m p q pgm =
-        let vcc : high VCC n ≡ true = m .others VCC p ∙ on in
-        on-sound (follows n v) refl vcc (wired-kept vcc (m .others CLK q) pgm) (s .half .placed)
-
-    -- Nor does PGM.
-    plain-follow :
-        {x : Line} {was : Bool} → Moved x was now n → eqb (place VCC) (place x) ≡ false → eqb (place CLK) (place x) ≡ false →
-        eqb (place PGM) (place x) ≡ false → SoundCard (withVolatile c (follows n v))
-    plain-follow m p q r = lines-follow m p q (λ _ z. cc (m .others PGM r))
-
-    -- 6 keeps PGM down while CLK is high.
-    pgm-rises : edgeRefusal (Rises PGM) now (v .programming) ≡ 0 → high CLK now ≡ true → ⊥
-    unfolding edgeRefusal
-    pgm-rises r clk =
-        let six : edgeRefusal (Rises PGM) now (v .programming) ≡ 6 = cc (and-false (v .programming)) in
-        omega arith
-
-    clk-rises : Moved CLK false now n → SoundCard (withVolatile c (clkRises n v))
-    unfolding clkRises place
-    clk-rises m =
-        on-sound (clkRises n v) refl (m .others VCC refl ∙ on)
-        (record { latched = λ q. m .after; under-way = λ q. m .after; started = λ x y z. z })
-        (s .half .placed)
-
-    rst-falls : Moved RST true now n → SoundCard (rstFalls n c)
-    unfolding rstFalls place
-    rst-falls m =
-        let vcc = m .others VCC refl ∙ on in
-        on-sound (rstFalls n c .volatile) refl vcc (wired-kept vcc (m .others CLK refl) (λ _ z. cc (m .others PGM refl))) at-zero
-
-    module _ (m : Moved CLK true now n) where
-      -- A card whose volatile half is left by CLK's fall.
-      fallen :
-          (w : Volatile) → w .lines ≡ n → w .latch ≡ false → w .programming ≡ false → Placed (w .address) (w .matched) (w .e1) →
-          SoundCard (withVolatile c w)
-      unfolding place
-      fallen w l d u p = on-sound w l (m .others VCC refl ∙ on) (rw (d, u) (idle-wired n (λ _. m .after))) p
-
-      clk-falls-programming : (op : Operation) → SoundCard (programmed op n c)
-      unfolding programmed
-      clk-falls-programming op =
-          let kept = programmed-lasting op (v .address) (c .memory) (c .fuses) (s .fused) in
-          record {
-            sized = kept .sized ∙ s .sized;
-            fused = kept .fused;
-            half =
-                fallen (programmed op n c .volatile) refl refl refl
-                (programmed-placed (v .address) (v .matched) (v .e1) _ (s .half .placed)) .half;
-          }
-
-      clk-falls-clocked : SoundCard (clocked n c)
-      unfolding clocked
-      clk-falls-clocked =
-          fallen (clocked n c .volatile) refl refl refl
-          (clocked-placed (v .address) (level1 (held (c .fuses) v)) (v .sv) (v .latch) (bit (c .memory) (v .address)) (v .matched) (v .e1)
-          (not (unblown EC-EN (c .fuses))) (s .half .placed))
-
-      clk-falls : SoundCard (clkFalls n c)
-      unfolding clkFalls
-      clk-falls =
-          cond-cases SoundCard (v .programming) (λ _. clk-falls-programming _)
-          (λ _.
-          cond-cases SoundCard (high RST now)
-          (λ _. fallen (unlatched n (v .matched) v) refl refl refl (s .half .placed)) (λ _. clk-falls-clocked))
-
-    vcc-falls : Moved VCC true now n → SoundCard (vccFalls n c)
-    unfolding vccFalls off anySet
-    vcc-falls m =
-        lasting (off n)
-        (record {
-          levels = small;
-          unpowered = guarded (not (high VCC n)) false (λ _. refl);
-          wired = idle-wired n (λ x. cc);
-          placed = at-zero;
-        })
-
-    by-edge : (e : Edge) → edge now n ≡ e → edgeRefusal e now (v .programming) ≡ 0 → SoundCard (powered e n c)
-    unfolding powered place
-    by-edge Same e r = s
-    by-edge Many e r = s
-    by-edge (Rises VCC) e r = absurd (true≢false (cc (rose e .before)))
-    by-edge (Rises RST) e r = plain-follow (rose e) refl refl refl
-    by-edge (Rises CLK) e r = clk-rises (rose e)
-    by-edge (Rises PGM) e r =
-        lines-follow (rose e) refl refl (λ y _. absurd (pgm-rises r (cc (rose e .others CLK refl))))
-    by-edge (Rises IO) e r = plain-follow (rose e) refl refl refl
-    by-edge (Rises FUS) e r = plain-follow (rose e) refl refl refl
-    by-edge (Falls VCC) e r = vcc-falls (fell e)
-    by-edge (Falls RST) e r = rst-falls (fell e)
-    by-edge (Falls CLK) e r = clk-falls (fell e)
-    by-edge (Falls PGM) e r = lines-follow (fell e) refl refl (λ _ z. cc (fell e .after))
-    by-edge (Falls IO) e r = plain-follow (fell e) refl refl refl
-    by-edge (Falls FUS) e r = plain-follow (fell e) refl refl refl
-
-  unpowered-follow :
-      edgeRefusal (edge now n) now (v .programming) ≡ 0 → high VCC now ≡ false →
-      SoundCard (withVolatile c (follows n v))
-  unfolding follows anySet unready
-  unpowered-follow r o =
+  moved-sound : (w : Way) → wiredBy w (v .lines) n (v .latch) (v .programming) ≡ true → SoundCard (moved w n c)
+  unfolding wiredBy moved follows clkRises vccFalls off anySet rstFalls programmed unlatched clocked
+  moved-sound Keeps k = s
+  moved-sound Follows k =
       lasting (follows n v)
       (record {
         levels = small;
-        unpowered = guarded (not (high VCC n)) (anySet v) (λ _. nothing);
-        wired =
-            record {
-              latched = λ q. let any : anySet v ≡ true = simp (q, or-true) in cc;
-              under-way = λ q. let any : anySet v ≡ true = simp (q, or-true) in cc;
-              started = λ x y z. go x y z (v .programming) refl;
-            };
+        unpowered =
+            guarded (not (high VCC n)) (anySet v)
+            (λ off.
+            unguarded (not (high VCC (v .lines))) (anySet v) (s .half .unpowered)
+            (rw (not-true (high VCC n) off) at (and-left (high VCC n || not (high VCC (v .lines))) _ k)));
+        wired = not-true _ (and-right (high VCC n || not (high VCC (v .lines))) _ k);
         placed = s .half .placed;
       })
-    where
-      nothing : anySet v ≡ false
-      nothing = cc (s .half .unpowered)
-
-      go : high VCC n ≡ true → high CLK n ≡ true → high PGM n ≡ true → (b : Bool) → v .programming ≡ b → b ≡ true
-      go x y z true e = refl
-      go x y z false e = cc (vcc-rises now n (s .half .levels) small)
+  moved-sound Latches k = on-sound (clkRises n v) refl k (s .half .placed)
+  moved-sound SwitchesOff k =
+      lasting (off n)
+      (record { levels = small; unpowered = guarded (not (high VCC n)) false (λ _. refl); wired = not-true _ k; placed = at-zero })
+  moved-sound Resets k = on-sound (rstFalls n c .volatile) refl k at-zero
+  moved-sound Programs k =
+      let op = operationOf c in
+      let kept = programmed-lasting op (v .address) (c .memory) (c .fuses) (s .fused) in
+      record {
+        sized = kept .sized ∙ s .sized;
+        fused = kept .fused;
+        half =
+            on-sound (programmed op n c .volatile) refl k
+            (programmed-placed (v .address) (v .matched) (v .e1) _ (s .half .placed)) .half;
+      }
+  moved-sound Unlatches k = on-sound (unlatched n (v .matched) v) refl k (s .half .placed)
+  moved-sound Clocks k =
+      on-sound (clocked n c .volatile) refl k
+      (clocked-placed (v .address) (level1 (held (c .fuses) v)) (v .sv) (v .latch) (bit (c .memory) (v .address)) (v .matched) (v .e1)
+      (not (unblown EC-EN (c .fuses))) (s .half .placed))
 
 pub sound-stays-sound : Sound-stays-sound
-unfolding refusal next
+unfolding refusal anySet staysWired
 sound-stays-sound c n e r =
-    let p = peel (ltb 63 n) 0 _ r in
+    let v = c .volatile in
     let s = let-pass c e in
-    let small : n < 64 = omega (arith, ltb-false 63 n (p .0)) in
+    let small : n < 64 = omega (arith, ltb-false 63 n (peel (ltb 63 n) 0 _ r .0)) in
+    let idle : (not (high VCC (v .lines)) && (v .latch || v .programming)) ≡ false =
+    guarded (not (high VCC (v .lines))) _ (λ off. let none = unguarded _ (anySet v) (s .half .unpowered) off in search neither-right depth 9)
+    in
+    let stays = stays-wired (v .lines) n (s .half .levels) small (v .programming) (v .latch) in
     passes (next c n)
-    (cond-cases SoundCard (high VCC (c .volatile .lines)) (λ on. by-edge c n s small on (edge (c .volatile .lines) n) refl (p .1))
-    (λ o. unpowered-follow c n s small (p .1) o))
+    (rw (← accepted c n r, stepped-moves c n) (moved-sound c n s small (wayOf c n) (rw (r, s .half .wired, idle) at stays)))

@@ -11,7 +11,7 @@ use Rattle.rules.specs.Lines.{VCC, RST, CLK, PGM, IO, FUS, high, Edge, Same, Ri
 use Rattle.rules.specs.Programming.{operationNow}
 use Rattle.rules.specs.Steps.{follows, withVolatile, vccFalls, clkRises, rstFalls, programmed, unlatched, clocked, clkFalls}
 use Rattle.rules.specs.Steps.{powered, next}
-use Rattle.rules.specs.Refusals.{refusal, stateRefusal}
+use Rattle.rules.specs.Refusals.{lineRefusal, refusal, stateRefusal}
 use Rattle.rules.specs.Card.{Ran, stepped, checkedStep, run}
 use Rattle.rules.specs.Demands.{after}
 use Rattle.theorems.proofs.Tests.{cond-cases}
@@ -35,13 +35,13 @@ moved Programs n c = programmed (operationOf c) n c
 moved Unlatches n c = withVolatile c (unlatched n (c .volatile .matched) (c .volatile))
 moved Clocks n c = clocked n c
 
-moved-cond : (b : Bool) (w w′ : Way) (n : ℕ) (c : Card) → moved (cond b w w′) n c ≡ cond b (moved w n c) (moved w′ n c)
+pub moved-cond : (b : Bool) (w w′ : Way) (n : ℕ) (c : Card) → moved (cond b w w′) n c ≡ cond b (moved w n c) (moved w′ n c)
 moved-cond true w w′ n c = refl
 moved-cond false w w′ n c = refl
 
 module _ (levels : ℕ) (programming : Bool) where
   -- The way of an edge with VCC on, by levels and programming, with the law that it is the edge's.
-  powered-way :
+  unfoldable pub powered-way :
       (e : Edge) →
       (w : Way) ×
       ((n : ℕ) (c : Card) → c .volatile .lines ≡ levels → c .volatile .programming ≡ programming → powered e n c ≡ moved w n c)
@@ -64,13 +64,18 @@ module _ (levels : ℕ) (programming : Bool) where
   powered-way (Falls IO) = (Follows, λ n c _ _. refl)
   powered-way (Falls FUS) = (Follows, λ n c _ _. refl)
 
-pub way : Volatile → ℕ → Way
-way v n =
-    cond (eqb (refusal v n) 0) (cond (high VCC (v .lines)) (powered-way (v .lines) (v .programming) (edge (v .lines) n) .0) Follows) Keeps
+-- The way of a step, by levels, programming and step alone.
+unfoldable pub way : ℕ → Bool → ℕ → Way
+unfolding powered-way lineRefusal edge
+way levels programming n =
+    cond (eqb (lineRefusal levels programming n) 0) (cond (high VCC levels) (powered-way levels programming (edge levels n) .0) Follows) Keeps
+
+abbrev pub wayOf : Card → ℕ → Way
+wayOf c n = way (c .volatile .lines) (c .volatile .programming) n
 
 -- Whatever a step does, it is one of the ways.
-pub stepped-moves : (c : Card) (n : ℕ) → stepped c n ≡ moved (way (c .volatile) n) n c
-unfolding stepped next way moved
+pub stepped-moves : (c : Card) (n : ℕ) → stepped c n ≡ moved (wayOf c n) n c
+unfolding stepped next refusal way moved
 stepped-moves c n =
     rw (
       moved-cond (eqb (refusal (c .volatile) n) 0) _ _ n c,
@@ -82,9 +87,8 @@ pub same-refusal : (v v′ : Volatile) (n : ℕ) → v .lines ≡ v′ .lines �
 unfolding refusal
 same-refusal v v′ n l p = cc
 
-pub same-way : (v v′ : Volatile) (n : ℕ) → v .lines ≡ v′ .lines → v .programming ≡ v′ .programming → way v n ≡ way v′ n
-unfolding way
-same-way v v′ n l p = cc (same-refusal v v′ n l p)
+pub same-way : {l l′ : ℕ} {p p′ : Bool} (n : ℕ) → l ≡ l′ → p ≡ p′ → way l p n ≡ way l′ p′ n
+same-way n l p = cc
 
 -- An accepted step.
 pub accepted : (c : Card) (n : ℕ) → refusal (c .volatile) n ≡ 0 → stepped c n ≡ next c n

@@ -43,6 +43,15 @@ beq-true true false e = cc
 beq-true false true e = e
 beq-true false false e = refl
 
+-- A test holds of both Booleans.
+unfoldable pub every : (Bool → Bool) → Bool
+every test = test true && test false
+
+pub of-every : (test : Bool → Bool) → every test ≡ true → (b : Bool) → test b ≡ true
+unfolding every
+of-every test e true = search and-left
+of-every test e false = search and-right
+
 -- `below` of a test that stands for an implication.
 pub below-then :
     (k : ℕ) (p q : ℕ → Bool) → all k (λ n. not (p n) || q n) ≡ true → (n : ℕ) → n < k → p n ≡ true → q n ≡ true
