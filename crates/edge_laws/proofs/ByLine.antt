@@ -16,13 +16,13 @@ use Rattle.rules.specs.Refusals.{anySet, many, edgeRefusal, refusal}
 use Rattle.rules.specs.Match.{arrived}
 use Rattle.rules.specs.Steps.{follows, withVolatile, vccFalls, clkRises, rstFalls, unlatched, clocked, clkFalls, powered, next}
 use Rattle.rules.specs.Steps.{driven, pinValue, pin}
-use Rattle.theorems.proofs.Tests.{cond-cases, neither-left, neither-right, edge-same}
+use Rattle.theorems.proofs.Tests.{cond-cases, neither-left, neither-right}
 use Rattle.theorems.proofs.Soundness.{Sound, sound, under-way}
 use Rattle.volatile.specs.declared.Volatile.{Volatile}
 use Rattle.volatile.specs.Packed.{packed, unpacked, Given, cardOf, handedBack, withHalf, programmedCard, madeUpWord}
 use Rattle.volatile.proofs.Packing.{unpacked-packed, packed-unpacked}
 use Rattle.volatile.specs.Inner.{Ready, Steps}
-use Rattle.edge_laws.proofs.Turned.{by-difference, edge-by-difference, small-step, Turned, turned-by}
+use Rattle.edge_laws.proofs.Turned.{by-difference, edge-by-difference, same-levels, small-step, Turned, turned-by}
 use Rattle.edge_laws.proofs.LineMasks.{vcc-clk-pgm, vcc-rst, clk-pgm, high-low}
 use Rattle.edge_laws.proofs.EdgeRefusals.{refused, line-refusal, same-refusal}
 
@@ -359,7 +359,7 @@ module _ {g : Given} {p : ℕ} (ready : Ready g p) (n : ℕ) where
 
       there : (b : Bool) → high VCC l ≡ b → next card n ≡ card
       there true h = next-at Same true is-same h
-      there false h = next-at Same false is-same h ∙ rw (edge-same l n (levels-small ready) small is-same)
+      there false h = next-at Same false is-same h ∙ rw (same-levels l n (levels-small ready) small d)
 
   -- A byte over 63.
   pub over-63 : 63 < n → Steps g p n g p 1
