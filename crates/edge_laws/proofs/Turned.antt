@@ -104,7 +104,8 @@ pub turned-by : (x : Line) (levels n : ℕ) → levels < 64 → bitXor levels n 
 unfolding told kept
 turned-by x levels n h e =
     let k : n < 64 = small-step levels n h (rw e (ltb-true (mask x) 64 (mask-small x))) in
-    let t = rw (eq-eqb _ _ e) at (and-right (Bool·beq (eqb n (turned x levels)) (eqb (bitXor levels n) (mask x))) _ (told-of levels n h k x)) in
+    let same = Bool·beq (eqb n (turned x levels)) (eqb (bitXor levels n) (mask x)) in
+    let t = rw (eq-eqb _ _ e) at (and-right same _ (told-of levels n h k x)) in
     record {
       small = k;
       edge-is = edge-by-difference levels n h k ∙ rw e (its-change x levels);

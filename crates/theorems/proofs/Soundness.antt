@@ -293,7 +293,8 @@ sound-stays-sound c n e r =
     let s = let-pass c e in
     let small : n < 64 = omega (arith, ltb-false 63 n (peel (ltb 63 n) 0 _ r .0)) in
     let idle : (not (high VCC (v .lines)) && (v .latch || v .programming)) ≡ false =
-    guarded (not (high VCC (v .lines))) _ (λ off. let none = unguarded _ (anySet v) (s .half .unpowered) off in search neither-right depth 9)
+    guarded (not (high VCC (v .lines))) _
+    (λ off. let none = unguarded _ (anySet v) (s .half .unpowered) off in search neither-right depth 9)
     in
     let stays = stays-wired (v .lines) n (s .half .levels) small (v .programming) (v .latch) in
     passes (next c n)

@@ -68,7 +68,8 @@ module _ (levels : ℕ) (programming : Bool) where
 unfoldable pub way : ℕ → Bool → ℕ → Way
 unfolding powered-way lineRefusal edge
 way levels programming n =
-    cond (eqb (lineRefusal levels programming n) 0) (cond (high VCC levels) (powered-way levels programming (edge levels n) .0) Follows) Keeps
+    cond (eqb (lineRefusal levels programming n) 0)
+    (cond (high VCC levels) (powered-way levels programming (edge levels n) .0) Follows) Keeps
 
 abbrev pub wayOf : Card → ℕ → Way
 wayOf c n = way (c .volatile .lines) (c .volatile .programming) n
