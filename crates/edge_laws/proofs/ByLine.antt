@@ -22,7 +22,7 @@ use Rattle.volatile.specs.declared.Volatile.{Volatile}
 use Rattle.volatile.specs.Packed.{packed, unpacked, Given, cardOf, handedBack, withHalf, programmedCard, madeUpWord}
 use Rattle.volatile.proofs.Packing.{unpacked-packed, packed-unpacked}
 use Rattle.volatile.specs.Inner.{Ready, Steps}
-use Rattle.edge_laws.proofs.Turned.{by-difference, edge-by-difference, same-levels, small-step, Turned, turned-by}
+use Rattle.edge_laws.proofs.Turned.{by-difference, edge-by-difference, same-levels, small-step, Turned, turned-by-mask}
 use Rattle.edge_laws.proofs.LineMasks.{vcc-clk-pgm, vcc-rst, clk-pgm, high-low}
 use Rattle.edge_laws.proofs.EdgeRefusals.{refused, line-refusal, same-refusal}
 
@@ -113,7 +113,7 @@ module _ {g : Given} {p : ℕ} (ready : Ready g p) (n : ℕ) where
 
   -- The difference is one line's mask.
   pub turned : (x : Line) → bitXor l n ≡ mask x → Turned x l n
-  turned x = turned-by x l n (levels-small ready)
+  turned x = turned-by-mask x l n (levels-small ready)
 
   -- The refusal and the next card, by the edge.
   refusal-at : (e : Edge) → n < 64 → edge l n ≡ e → refusal w n ≡ edgeRefusal e l (w .programming)

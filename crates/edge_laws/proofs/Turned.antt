@@ -100,9 +100,9 @@ mask-small : (x : Line) → ltb (mask x) 64 ≡ true
 unfolding allLines mask
 mask-small = each-line (λ x. ltb (mask x) 64) refl
 
-pub turned-by : (x : Line) (levels n : ℕ) → levels < 64 → bitXor levels n ≡ mask x → Turned x levels n
+pub turned-by-mask : (x : Line) (levels n : ℕ) → levels < 64 → bitXor levels n ≡ mask x → Turned x levels n
 unfolding told kept
-turned-by x levels n h e =
+turned-by-mask x levels n h e =
     let k : n < 64 = small-step levels n h (rw e (ltb-true (mask x) 64 (mask-small x))) in
     let same = Bool·beq (eqb n (turned x levels)) (eqb (bitXor levels n) (mask x)) in
     let t = rw (eq-eqb _ _ e) at (and-right same _ (told-of levels n h k x)) in

@@ -25,7 +25,7 @@ use Rattle.walk.specs.declared.Walked.{Walked}
 use Rattle.volatile.specs.Inner.{Ready, Steps}
 use Rattle.walk.specs.Contracts.{calm, walkedTo, walks, walkTo, noWalk, walkOf}
 use Rattle.walk.specs.Inside.{walkedHalf, Calm}
-use Rattle.edge_laws.proofs.Turned.{Turned, small-step, turned-by}
+use Rattle.edge_laws.proofs.Turned.{Turned, small-step, turned-by-mask}
 use Rattle.edge_laws.proofs.ByLine.{Goes, goes-to, clk-rises, clk-walks}
 use Rattle.shown.proofs.Plain.{plain-clocked}
 
@@ -100,7 +100,7 @@ module _ {g : Given} {n : ℕ} (c : Calm g n) where
 
   t : Turned CLK l n
   unfolding mask place
-  t = turned-by CLK l n small clock-alone
+  t = turned-by-mask CLK l n small clock-alone
 
   calm-here : flags-calm l flags ≡ true
   unfolding flags-calm high place
