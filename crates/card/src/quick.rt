@@ -3,9 +3,7 @@ use crate::masks;
 use memory::is_set;
 use volatile::Volatile;
 ghost use mathlib.Core.Path.{_≡_};
-ghost use mathlib.Core.Bool.{true, false};
 ghost use lib.Bits.{bitXor, bitAnd};
-ghost use Rattle.memory.specs.Image.{digit};
 ghost use Rattle.card.specs.Moves.{QuickTo};
 
 // The half after the step. Any other step is left to the run.

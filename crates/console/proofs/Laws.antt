@@ -11,7 +11,6 @@ use lib.Signed.{ltZ}
 use borrow.Rule.Slice.PartMut.{midOf}
 use borrow.Author.Tests.{eq-eqb, ne-eqb, eqb-false, ltb-true}
 use Rattle.io.specs.Counts.{clamped}
-use Rattle.console.specs.declared.Read.{Read}
 use Rattle.console.specs.declared.Read.the-variants.{Failed, End, More}
 use Rattle.console.specs.declared.Output.{Output}
 use Rattle.console.specs.declared.Output.the-variants.{Open, Lost, Stopped}

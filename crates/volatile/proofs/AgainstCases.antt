@@ -8,7 +8,7 @@ use Rattle.volatile.specs.Cases.{Flags-apart, Made-up, Plainly-sound, La
 
 pub flags-apart : Flags-apart
 unfolding the-card cardAt unpacked packed
-flags-apart = (refl, refl, refl, refl)
+flags-apart = (refl, refl, refl, refl, refl)
 
 pub made-up : Made-up
 unfolding the-card madeUpWord

@@ -12,7 +12,7 @@ use Rattle.rules.specs.Rights.{held}
 use Rattle.rules.specs.Programming.{mayProgramNow, operationNow}
 use Rattle.rules.specs.CaseForms.{none, SV, P1, R1, E1, Match, Latch, Programming, state, cardAt, ones, sample}
 use Rattle.volatile.specs.declared.Volatile.{Volatile}
-use Rattle.volatile.specs.Packed.{unpacked, packed, given, cardOf, handedBack, madeUpWord, wired, plainlySound, lackingOf}
+use Rattle.volatile.specs.Packed.{unpacked, packed, given, cardOf, handedBack, withHalf, madeUpWord, wired, plainlySound, lackingOf}
 use Rattle.volatile.specs.Packed.{programmedHalf, comparedHere, goneOn, arrivalFlags, openingFlags}
 
 -- Of what stands left in each row f makes what stands right.
@@ -47,7 +47,9 @@ Flags-apart =
     (Match, half 21 85 64) ∷
     []) ×
     (cardOf (given sample 5 (half 21 85 65)) ≡ cardAt 21 5 sample 85 (SV + Match)) ×
-    (handedBack (cardAt 21 5 sample 85 (SV + Match)) ≡ given sample 5 (half 21 85 65))
+    (handedBack (cardAt 21 5 sample 85 (SV + Match)) ≡ given sample 5 (half 21 85 65)) ×
+    -- The same card with another half.
+    (withHalf (given sample 5 (half 21 85 65)) (half 17 86 1) ≡ given sample 5 (half 17 86 1))
 
 -- 9: a word over 127 is made up; up to there 01's clauses decide.
 abbrev pub Made-up : Type 0
