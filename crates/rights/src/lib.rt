@@ -1,9 +1,9 @@
-// Where an address lies and what an access there asks for.
+// What an access in a zone asks for, and what an operation does there.
 use rules::Operation;
 use rules::Right;
 use rules::Zone;
 ghost use mathlib.Core.Path.{_≡_};
-ghost use Rattle.rules.specs.Zones.{zone, row, isFuse};
+ghost use Rattle.rules.specs.Zones.{row, isFuse};
 ghost use Rattle.rules.specs.Programming.{asks, effect};
 ghost use Prim.Native.Nat.{_-_, _<_};
 ghost use lib.ListN.{getD};
@@ -75,29 +75,6 @@ const RIGHTS: [[[u8; 3]; 10]; 2] = [
         [YES, NO, NO],
     ],
 ];
-
-// The zone of an address, by ranges of the number.
-pub fn zone_of(a: u32) -> Zone
-    ensures { λ r. ⌜ r ≡ zone a ⌝ }
-{
-    match a {
-        0..=15 => Zone::FZ,
-        16..=79 => Zone::IZ,
-        80..=95 => Zone::SC,
-        96..=111 => Zone::SCAC,
-        112..=175 => Zone::CPZ,
-        176..=1199 => Zone::AZ,
-        1200..=1231 => Zone::EZ,
-        1232..=1359 => Zone::EC,
-        1360..=1375 => Zone::MTZ,
-        1376..=1391 => Zone::MFZ,
-        1392..=1407 => Zone::Block,
-        1408..=1423 => Zone::FuseMF,
-        1481 => Zone::FuseECEN,
-        1504..=1519 => Zone::FuseISS,
-        _ => Zone::Gap,
-    }
-}
 
 // The row of a zone, in the order of the addresses.
 fn row_of(z: Zone) -> usize

@@ -14,7 +14,7 @@ use Rattle.rules.specs.declared.Zone.the-variants.{Gap}
 use Rattle.rules.specs.Zones.{zone}
 use Rattle.rules.specs.Rights as Rights
 use Rattle.rules.specs.Rights.{Held, level1, granted, rights, mayRead}
-use Rattle.rights.proofs.Ranges.{past-all}
+use Rattle.rules.proofs.PastLast.{past-all}
 use Rattle.volatile.proofs.Packing.{digit-low, masked-test}
 
 -- Reading in this zone asks for the same at both levels.

@@ -301,7 +301,7 @@ impl Volatile {
     pub fn may_read_by_table(self, fuses: u8) -> bool
         ensures { λ r. ⌜ r ≡ mayRead (held fuses (unpacked self)) (zone (self .address)) ⌝ }
     {
-        let z = rights::zone_of(self.address);
+        let z = zones::zone_of(self.address);
         let right = rights::right_of(self.level1(fuses), z);
         let asked = right.read;
         asked & self.lacking(fuses) == 0
@@ -357,7 +357,7 @@ impl Volatile {
     pub fn may_program(self, fuses: u8) -> bool
         ensures { λ r. ⌜ r ≡ mayProgramNow fuses (unpacked self) ⌝ }
     {
-        let z = rights::zone_of(self.address);
+        let z = zones::zone_of(self.address);
         if is_set(self.lines, RST) != rights::is_fuse(z) {
             return false;
         }
@@ -373,7 +373,7 @@ impl Volatile {
     {
         if self.may_program(fuses) {
             let latch = is_set(self.flags, LATCH);
-            return rights::effect_of(self.level1(fuses), latch, rights::zone_of(self.address));
+            return rights::effect_of(self.level1(fuses), latch, zones::zone_of(self.address));
         }
         Operation::Nothing
     }

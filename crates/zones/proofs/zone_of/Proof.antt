@@ -4,9 +4,10 @@ use mathlib.Core.Logic.{⊎-elim}
 use mathlib.Core.Path.{refl}
 use Rattle.rules.specs.declared.Zone.the-variants.{FZ, IZ, SC, SCAC, CPZ, AZ, EZ, EC, MTZ, MFZ}
 use Rattle.rules.specs.declared.Zone.the-variants.{Block, FuseMF, FuseECEN, FuseISS, Gap}
-use Rattle.rights.proofs.Ranges.{lie-in, in-range, past-all, sides}
-use Rattle.rights.proofs.zone_of.Statement.{statement}
-use Rattle.rights.proofs.zone_of.Tie as tie
+use Rattle.rules.proofs.PastLast.{past-all}
+use Rattle.zones.proofs.Ranges.{lie-in, in-range, sides}
+use Rattle.zones.proofs.zone_of.Statement.{statement}
+use Rattle.zones.proofs.zone_of.Tie as tie
 
 -- The gap lies on both sides of EC_EN's address.
 gap : tie.Need-returns-15

@@ -14,7 +14,6 @@ use Rattle.rules.specs.declared.Zone.{Zone}
 use Rattle.rules.specs.declared.Zone.the-variants.{FZ, IZ, SC, SCAC, CPZ, AZ, EZ, EC, MTZ, MFZ}
 use Rattle.rules.specs.declared.Zone.the-variants.{Block, FuseMF, FuseECEN, FuseISS, Gap}
 use Rattle.rules.specs.Zones.{zone, row}
-pub use Rattle.rules.proofs.PastLast.{past-all}
 
 -- The zone of a row.
 at-row : ℕ → Zone
