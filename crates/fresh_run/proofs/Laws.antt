@@ -16,7 +16,7 @@ use Rattle.card.specs.Contracts.{runAnswers, RunAnswered}
 use Rattle.card.proofs.AsDefined.{run-leaves-as-checked, run-answers-as-checked, run-refused-as-checked}
 use Rattle.report.specs.Lines.{fourLines}
 use Rattle.report.specs.Session.{reported}
-use Rattle.report.proofs.Digits.{at-most-twenty}
+use Rattle.decimal.proofs.Digits.{at-most-twenty}
 use Rattle.report.proofs.Lengths.{length-lines}
 use Rattle.fresh_run.specs.FreshRun.{freshRun, runText, enough}
 

@@ -4,7 +4,7 @@ use native.Mathlib.Omega.{arith}
 use mathlib.Core.Path.{_≡_}
 use mathlib.Core.List.{List, map}
 use lib.ListN.{length, length-append, length-map, length-take}
-use Rattle.report.specs.Decimal.{digit, decimal}
+use Rattle.decimal.specs.Decimal.{digit, decimal}
 use Rattle.report.specs.Lines.{newline, badWord, numbered, line, answersLine, badText, fourLines}
 
 pub length-numbered : (word : List ℕ) (x : ℕ) → length (numbered word x) ≡ length word + length (decimal x)

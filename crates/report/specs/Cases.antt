@@ -13,7 +13,7 @@ use Rattle.rules.specs.Card.{Ran, checkedRun, triesLeft}
 use Rattle.rules.specs.Demands.{freshCard}
 use Rattle.rules.specs.CaseForms.{none, cardAt, image, sample}
 use Rattle.report.specs.declared.Text.the-variants.{Wrote, TooSmall}
-use Rattle.report.specs.Decimal.{digit, digitsWithin, decimal}
+use Rattle.decimal.specs.Decimal.{digit, digitsWithin, decimal}
 use Rattle.report.specs.Lines.{numbered, line, answersLine, badText, fourLines}
 use Rattle.report.specs.Buffer.{Made, Enough}
 use Rattle.report.specs.Session.{reported}

@@ -2,7 +2,7 @@
 use Prim.Native.Nat.{ℕ}
 use mathlib.Core.List.{List, [], _∷_, _++_, map}
 use lib.ListN.{take}
-use Rattle.report.specs.Decimal.{digit, decimal}
+use Rattle.decimal.specs.Decimal.{digit, decimal}
 
 abbrev pub newline : List ℕ
 newline = 10 ∷ []

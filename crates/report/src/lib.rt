@@ -1,10 +1,10 @@
 // Texts made in a lent buffer: the writers of their parts, and the session program's.
+use decimal::places;
 ghost use mathlib.Core.Path.{_≡_};
-ghost use mathlib.Core.List.{_∷_, [], _++_};
-ghost use Prim.Native.Nat.{_≤_, min};
+ghost use mathlib.Core.List.{_++_};
+ghost use Prim.Native.Nat.{min};
 ghost use lib.ListN.{length, take};
 ghost use Rattle.memory.specs.Buffer.{Put};
-ghost use Rattle.report.specs.Decimal.{digit, decimal};
 ghost use Rattle.report.specs.Lines.{doneWord, ofWord, refusedWord, numbered, line, answersLine, badText, fourLines};
 ghost use Rattle.report.specs.Buffer.{Made};
 
@@ -14,45 +14,12 @@ pub enum Text {
     TooSmall,
 }
 
-// How many digits x has.
-fn places(x: usize) -> usize
-    ensures { λ r. ⌜ (r ≡ length (decimal x)) × (r ≤ 20) ⌝ }
-{
-    let mut n = 1;
-    let mut rest = x;
-    while 10 <= rest {
-        rest = rest / 10;
-        n += 1;
-    }
-    n
-}
-
-// The last decimal digit of x.
-fn put_digit(out: &mut [u8], at: usize, x: usize) -> usize
-    ensures { λ r. ⌜ Put (now (out .entry)) at (digit x ∷ []) r (now (out .exit)) ⌝ }
-{
-    let one = [48 + (x % 10) as u8];
-    memory::put(out, at, &one)
-}
-
-fn put_decimal(out: &mut [u8], at: usize, x: usize) -> usize
-    ensures { λ r. ⌜ Put (now (out .entry)) at (decimal x) r (now (out .exit)) ⌝ }
-{
-    if x < 10 {
-        return put_digit(out, at, x);
-    }
-    let front = x / 10;
-    let last = x % 10;
-    let next = put_decimal(out, at, front);
-    put_digit(out, next, last)
-}
-
 // A word and a number behind it.
 pub fn put_number(out: &mut [u8], at: usize, word: &[u8], x: usize) -> usize
     ensures { λ r. ⌜ Put (now (out .entry)) at (numbered (now (word .entry)) x) r (now (out .exit)) ⌝ }
 {
     let next = memory::put(out, at, word);
-    put_decimal(out, next, x)
+    decimal::put_decimal(out, next, x)
 }
 
 fn put_line(out: &mut [u8], at: usize, word: &[u8], x: usize) -> usize
@@ -76,7 +43,7 @@ fn put_answers(out: &mut [u8], at: usize, answers: &[u8], done: usize) -> usize
     let mut next = at;
     let mut i = 0;
     while i < count {
-        next = put_digit(out, next, answers[i] as usize);
+        next = decimal::put_digit(out, next, answers[i] as usize);
         i += 1;
     }
     memory::put(out, next, b"\n")

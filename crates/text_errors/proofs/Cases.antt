@@ -2,7 +2,7 @@
 use mathlib.Core.Path.{_≡_, refl}
 use mathlib.Core.List.{_++_}
 use Rattle.words.specs.Names.{bytesOf}
-use Rattle.report.specs.Decimal.{digit, digitsWithin, decimal}
+use Rattle.decimal.specs.Decimal.{digit, digitsWithin, decimal}
 use Rattle.report.specs.Lines.{newline, numbered}
 use Rattle.text_errors.specs.ErrorLine.{table, wordsIn, words, errorLine}
 

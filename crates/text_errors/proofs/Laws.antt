@@ -9,7 +9,7 @@ use lib.Dec.{eqb}
 use lib.ListN.{length, length-append}
 use Rattle.words.specs.Names.{bytesOf}
 use Rattle.memory.specs.Buffer.{Put}
-use Rattle.report.proofs.Digits.{few-digits, at-most-twenty}
+use Rattle.decimal.proofs.Digits.{few-digits, at-most-twenty}
 use Rattle.report.proofs.Lengths.{length-numbered}
 use Rattle.text_errors.specs.ErrorLine.{table, wordsIn, words, errorLine, enough}
 

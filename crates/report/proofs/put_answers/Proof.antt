@@ -7,7 +7,7 @@ use lib.Seq.{getD-take}
 use borrow.Author.Needs.{needs}
 use Rattle.memory.specs.Buffer.{Put}
 use Rattle.memory.proofs.Buffer.{Putting, start, next-byte, ended, nothing-put, then, same-room}
-use Rattle.report.specs.Decimal.{digit}
+use Rattle.decimal.specs.Decimal.{digit}
 use Rattle.report.specs.Lines.{answersLine}
 use Rattle.report.proofs.put_answers.Statement.{statement}
 use Rattle.report.proofs.put_answers.Tie as tie

@@ -7,7 +7,7 @@ use mathlib.Core.Path.{_≡_, refl}
 use mathlib.Core.List.{[], _∷_, _++_}
 use lib.ListN.{length, length-append}
 use borrow.Author.Tests.{lt-ltb, le-ltb}
-use Rattle.report.specs.Decimal.{digit, digitsWithin, decimal}
+use Rattle.decimal.specs.Decimal.{digit, digitsWithin, decimal}
 
 -- Any bound from x on gives the same digits.
 enough : (a b x : ℕ) → x ≤ a → x ≤ b → digitsWithin a x ≡ digitsWithin b x

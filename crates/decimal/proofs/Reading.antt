@@ -5,8 +5,8 @@ use native.Mathlib.Decide.{decLt}
 use mathlib.Core.Path.{_≡_, refl}
 use mathlib.Core.List.{List, [], _∷_, _++_}
 use lib.ListN.{getD, List·getD-append}
-use Rattle.report.specs.Decimal.{digit, decimal}
-use Rattle.report.proofs.Digits.{one-digit, more-digits, some-digit}
+use Rattle.decimal.specs.Decimal.{digit, decimal}
+use Rattle.decimal.proofs.Digits.{one-digit, more-digits, some-digit}
 
 -- A decimal read byte by byte, behind what was read already.
 unfoldable pub value : ℕ → List ℕ → ℕ

@@ -1,7 +1,7 @@
 use borrow.Author.Needs.{needs}
-use Rattle.report.specs.Decimal.{digit}
-use Rattle.report.proofs.put_digit.Statement.{statement}
-use Rattle.report.proofs.put_digit.Tie as tie
+use Rattle.decimal.specs.Decimal.{digit}
+use Rattle.decimal.proofs.put_digit.Statement.{statement}
+use Rattle.decimal.proofs.put_digit.Tie as tie
 
 returns : tie.Need-returns
 unfolding digit

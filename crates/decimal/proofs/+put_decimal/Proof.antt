@@ -5,14 +5,14 @@ use borrow.Fn.Kinds.{In}
 use borrow.Fn.PlainCycle.{Measures, is, falls, and}
 use Rattle.memory.specs.Buffer.{Put}
 use Rattle.memory.proofs.Buffer.{then, same-room}
-use Rattle.report.specs.Decimal.{digit, decimal}
-use Rattle.report.proofs.Digits.{one-digit, more-digits}
-use Rattle.report.proofs.put_decimal.Reads as put-decimal
-use Rattle.report.proofs.put_decimal.Kinds as kinds
-use Rattle.report.proofs.put_digit.Reads as put-digit
-use Rattle.report.proofs.+put_decimal.Lts-put_decimal as lts
-use Rattle.report.proofs.+put_decimal.{statement}
-use Rattle.report.proofs.+put_decimal.Tie.{close}
+use Rattle.decimal.specs.Decimal.{digit, decimal}
+use Rattle.decimal.proofs.Digits.{one-digit, more-digits}
+use Rattle.decimal.proofs.put_decimal.Reads as put-decimal
+use Rattle.decimal.proofs.put_decimal.Kinds as kinds
+use Rattle.decimal.proofs.put_digit.Reads as put-digit
+use Rattle.decimal.proofs.+put_decimal.Lts-put_decimal as lts
+use Rattle.decimal.proofs.+put_decimal.{statement}
+use Rattle.decimal.proofs.+put_decimal.Tie.{close}
 
 -- The number falls.
 abbrev μ : Measures 1 kinds.ps ℕ

@@ -2,10 +2,10 @@ use Prim.Native.Nat.{_+_}
 use mathlib.Core.Path.{_≡_, ap}
 use native.Mathlib.Omega.{arith}
 use lib.ListN.{length}
-use Rattle.report.specs.Decimal.{decimal}
-use Rattle.report.proofs.Digits.{one-digit, length-more, at-most-twenty}
-use Rattle.report.proofs.places.Statement.{statement}
-use Rattle.report.proofs.places.Tie as tie
+use Rattle.decimal.specs.Decimal.{decimal}
+use Rattle.decimal.proofs.Digits.{one-digit, length-more, at-most-twenty}
+use Rattle.decimal.proofs.places.Statement.{statement}
+use Rattle.decimal.proofs.places.Tie as tie
 
 -- What is counted and the digits of the rest are one more than the digits of x.
 abbrev Inv-loop : tie.InvT-loop
