@@ -11,7 +11,7 @@ use lib.Seq.{length-take-le}
 use Rattle.rules.specs.File.{stepsAt, fuseSection, stepCount, stepSection, sessionRefusal}
 use Rattle.file.specs.Opening.{sessionAnswer, handedSteps}
 use Rattle.file.specs.declared.Session.the-variants.{Parts, Refused}
-use Rattle.file.proofs.Refusals.{WholeSession, whole-session}
+use Rattle.file_refusals.proofs.Refusals.{WholeSession, whole-session}
 
 pub record Opened (file : List ℕ) (room f n : ℕ) : Type 0 where
   pub accepted : sessionRefusal file room ≡ 0

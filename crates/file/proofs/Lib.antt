@@ -1,4 +1,3 @@
 pub mod AgainstCases
 pub mod Answers
-pub mod Refusals
 pub mod Determined

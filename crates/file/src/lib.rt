@@ -1,7 +1,10 @@
 // The openers of a card file and of a session: "Opening answers either the parts or a number."
+ghost use Prim.Native.Nat.{_+_, _≤_};
+ghost use mathlib.Core.Path.{_≡_};
+ghost use lib.ListN.{length};
+ghost use Rattle.memory.specs.Image.{bytes};
+ghost use Rattle.rules.specs.File.{memorySection};
 ghost use Rattle.file.specs.Opening.{CardOpened, SessionOpened, Handed};
-
-mod sections;
 
 pub enum CardFile {
     Card { fuses: u8 },
@@ -13,30 +16,40 @@ pub enum Session {
     Refused(u8),
 }
 
+// The memory section, into a buffer of its length.
+fn copy_memory(file: &[u8], memory: &mut [u8])
+    requires { ⌜ length (now memory) ≡ bytes ⌝ }
+    requires { ⌜ 2 + bytes ≤ length (now file) ⌝ }
+    ensures { λ _. ⌜ now (memory .exit) ≡ memorySection (now (file .entry)) ⌝ }
+{
+    memory::put(memory, 0, &file[rules::MEMORY_AT..rules::FUSE_COUNT_AT]);
+}
+
 pub fn open_card(file: &[u8], memory: &mut [u8]) -> CardFile
     ensures { λ r. ⌜ CardOpened (now (file .entry)) (now (memory .entry)) r (now (memory .exit)) ⌝ }
 {
-    let refused = sections::card_refusal(file, memory.len());
+    let refused = file_refusals::card_refusal(file, memory.len());
     if refused != 0 {
         return CardFile::Refused(refused);
     }
-    sections::copy_memory(file, memory);
+    copy_memory(file, memory);
     CardFile::Card {
         fuses: file[rules::FUSES_AT],
     }
 }
 
+// 17 lets pass only a session that ends with its last step: its length tells their count.
 pub fn open_session(file: &[u8], memory: &mut [u8]) -> Session
     ensures { λ r. ⌜ SessionOpened (now (file .entry)) (now (memory .entry)) r (now (memory .exit)) ⌝ }
 {
-    let refused = sections::session_refusal(file, memory.len());
+    let refused = file_refusals::session_refusal(file, memory.len());
     if refused != 0 {
         return Session::Refused(refused);
     }
-    sections::copy_memory(file, memory);
+    copy_memory(file, memory);
     Session::Parts {
         fuses: file[rules::FUSES_AT],
-        steps: sections::count(file, rules::STEP_COUNT_AT),
+        steps: file.len() - rules::STEPS_AT,
     }
 }
 
@@ -45,9 +58,8 @@ pub fn open_session(file: &[u8], memory: &mut [u8]) -> Session
 pub fn step_section(file: &[u8], room: usize) -> &[u8]
     ensures { λ r. ⌜ Handed (file .entry) room r ⌝ }
 {
-    if sections::session_refusal(file, room) != 0 {
+    if file_refusals::session_refusal(file, room) != 0 {
         return &file[0..0];
     }
-    let end = rules::STEPS_AT + sections::count(file, rules::STEP_COUNT_AT);
-    &file[rules::STEPS_AT..end]
+    &file[rules::STEPS_AT..]
 }

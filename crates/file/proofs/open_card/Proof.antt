@@ -5,7 +5,7 @@ use borrow.Author.Tests.{eq-eqb, ne-eqb}
 use denote.Ref.{now}
 use lib.ListN.{length}
 use Rattle.file.specs.Opening.{refusalInCard, cardAnswer, inMemory}
-use Rattle.file.proofs.Refusals.{Whole, whole-card}
+use Rattle.file_refusals.proofs.Refusals.{Whole, whole-card}
 use Rattle.file.proofs.open_card.Statement.{statement}
 use Rattle.file.proofs.open_card.Tie as tie
 

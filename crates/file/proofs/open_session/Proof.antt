@@ -5,7 +5,7 @@ use borrow.Author.Tests.{eq-eqb, ne-eqb}
 use denote.Ref.{now}
 use lib.ListN.{length}
 use Rattle.file.specs.Opening.{refusalInSession, sessionAnswer, inMemory}
-use Rattle.file.proofs.Refusals.{WholeSession, whole-session}
+use Rattle.file_refusals.proofs.Refusals.{WholeSession, whole-session, steps-counted}
 use Rattle.file.proofs.open_session.Statement.{statement}
 use Rattle.file.proofs.open_session.Tie as tie
 
@@ -24,11 +24,11 @@ sound c = whole-session _ _ (sym (c .before .session-refusal .ensures) ∙ c .if
 returns-2 : tie.Need-returns-2
 unfolding sessionAnswer refusalInSession inMemory
 returns-2 c =
-    let copied = c .before .before .before .before in
+    let copied = c .before .before .before in
     let checked = copied .before .before in
     let z = eq-eqb _ _ (checked .if1 .left) in
     record {
-      answer = rw (← checked .before .session-refusal .ensures, z, c .count .ensures .0) refl;
+      answer = rw (← checked .before .session-refusal .ensures, z, steps-counted (sound checked)) refl;
       bytes = copied .copy-memory .ensures;
     }
 
@@ -39,5 +39,5 @@ open-session-spec =
     (search needs) returns
     (λ c κs. (sound (c .before) .parts .sized, omega (arith, sound (c .before) .counted)))
     (λ c. omega (arith, sound (c .before .before .before .before .before) .counted))
-    (λ c κs. omega (arith, sound (c .before .before .before .before .before) .counted))
+    (λ c. omega (arith, sound (c .before .before .before .before .before) .counted))
     (search needs) returns-2)

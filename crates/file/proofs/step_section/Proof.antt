@@ -1,12 +1,12 @@
-use Prim.Native.Nat.{ℕ, _+_, _-_}
-use mathlib.Core.Path.{_≡_, refl, sym, ap, _∙_}
+use Prim.Native.Nat.{ℕ, _≤_}
+use mathlib.Core.Path.{refl, sym, ap, _∙_}
 use native.Mathlib.Omega.{arith}
 use borrow.Author.Tests.{eq-eqb, ne-eqb}
 use denote.Ref.{now}
-use lib.ListN.{take, drop}
-use Rattle.rules.specs.File.{stepsAt, stepCount}
+use lib.ListN.{length, take, drop}
+use Rattle.rules.specs.File.{stepsAt}
 use Rattle.file.specs.Opening.{handedSteps, handedFrom}
-use Rattle.file.proofs.Refusals.{WholeSession, whole-session}
+use Rattle.file_refusals.proofs.Refusals.{WholeSession, whole-session, steps-counted}
 use borrow.Author.Needs.{needs}
 use Rattle.file.proofs.step_section.Statement.{statement}
 use Rattle.file.proofs.step_section.Tie as tie
@@ -21,26 +21,17 @@ returns c =
 sound : (c : tie.Else1) → WholeSession (now (c .before .before .before .args .file)) (c .before .before .before .args .room)
 sound c = whole-session _ _ (sym (c .before .session-refusal .ensures) ∙ c .if1 .left)
 
-less : (a n : ℕ) → a + n - a ≡ n
-less a n = omega arith
-
-count-requires : tie.Need-count-requires
-count-requires c κs = omega (arith, sound c .counted)
-
-part-result-end-2 : tie.Need-part-result-end-2
-unfolding stepCount
-part-result-end-2 c = omega (arith, sound (c .before) .counted, c .count .ensures .0)
+long : (c : tie.Else1) → stepsAt ≤ length (now (c .before .before .before .args .file))
+long c = omega (arith, sound c .counted)
 
 returns-2 : tie.Need-returns-2
 unfolding handedSteps handedFrom
 returns-2 c =
-    let f = now (c .before .before .before .before .before .args .file) in
-    let e = c .before .before .before .session-refusal .ensures in
-    let z = eq-eqb _ 0 (c .before .before .if1 .left) in
+    let f = now (c .before .before .before .before .args .file) in
+    let e = c .before .before .session-refusal .ensures in
+    let z = eq-eqb _ 0 (c .before .if1 .left) in
     record {
-      bytes =
-          ap (λ (n : ℕ). take n (drop stepsAt f)) (less stepsAt (c .before .count .result)) ∙
-          rw (← e, z, c .before .count .ensures .0) refl;
+      bytes = ap (λ (n : ℕ). take n (drop stepsAt f)) (steps-counted (sound (c .before))) ∙ rw (← e, z) refl;
       block = refl;
       offset = rw (← e, z) refl;
     }
@@ -49,5 +40,5 @@ pub step-section-spec : {M : Type 1} → statement M
 step-section-spec =
     tie.close
     (tie.spec
-    (search needs) (search needs) (search needs) (search needs) returns count-requires
-    (search needs) (search needs) (search needs) part-result-end-2 returns-2)
+    (search needs) (search needs) (search needs) (search needs) returns
+    long long (search needs) returns-2)

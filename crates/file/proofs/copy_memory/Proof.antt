@@ -6,8 +6,8 @@ use lib.Seq.{length-take-le}
 use Rattle.memory.specs.Image.{bytes}
 use Rattle.memory.proofs.Buffer.{filled-up}
 use Rattle.rules.specs.File.{memoryAt, memorySection}
-use Rattle.file.proofs.sections.copy_memory.Statement.{statement}
-use Rattle.file.proofs.sections.copy_memory.Tie as tie
+use Rattle.file.proofs.copy_memory.Statement.{statement}
+use Rattle.file.proofs.copy_memory.Tie as tie
 
 returns : tie.Need-returns
 unfolding memorySection

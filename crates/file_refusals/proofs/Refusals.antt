@@ -1,10 +1,11 @@
 -- The chain of refusals, taken apart: what holds where it comes to 0, and the first checks without the later ones.
-use Prim.Native.Nat.{ℕ, suc, _+_, _≤_}
+use Prim.Native.Nat.{ℕ, suc, _+_, _-_, _≤_}
 use mathlib.Core.Path.{_≡_, refl}
 use mathlib.Core.Bool.{Bool, true, false, cond, not}
 use mathlib.Core.List.{List}
 use borrow.Author.Tests.{ltb-false, eqb-true, not-false}
 use native.Mathlib.Nat.{not-suc-le-zero, le-of-eq}
+use native.Mathlib.Omega.{arith}
 use lib.Dec.{eqb, ltb}
 use lib.ListN.{length}
 use Rattle.memory.specs.Image.{bytes}
@@ -80,3 +81,7 @@ whole-session file room e =
     let p15 = peel (ltb (length file) stepsAt) 14 _ (w .1) in
     let p16 = peel _ 15 _ (p15 .1) in
     record { parts = w .0; few = ltb-false _ _ (p16 .0); counted = eqb-true _ _ (ends _ 16 (p16 .1)) }
+
+-- 17 lets pass only a session that ends with its last step.
+pub steps-counted : {file : List ℕ} {room : ℕ} → WholeSession file room → length file - stepsAt ≡ stepCount file
+steps-counted s = omega (arith, s .counted)

@@ -3,8 +3,8 @@ use mathlib.Core.Path.{refl}
 use native.Mathlib.Omega.{arith}
 use Rattle.rules.specs.File.{count}
 use borrow.Author.Needs.{needs}
-use Rattle.file.proofs.sections.count.Statement.{statement}
-use Rattle.file.proofs.sections.count.Tie as tie
+use Rattle.file_refusals.proofs.count.Statement.{statement}
+use Rattle.file_refusals.proofs.count.Tie as tie
 
 cast-result : tie.Need-cast-result
 cast-result c = omega (arith, c .shared-slice-known .given (c .before .args .at))

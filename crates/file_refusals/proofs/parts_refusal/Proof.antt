@@ -7,8 +7,8 @@ use borrow.Author.Tests.{lt-ltb, le-ltb, eq-eqb, ne-eqb}
 use denote.Ref.{now}
 use lib.Dec.{eqb, ltb}
 use Rattle.rules.specs.File.{fuseSection, partsRefusal}
-use Rattle.file.proofs.sections.parts_refusal.Statement.{statement}
-use Rattle.file.proofs.sections.parts_refusal.Tie as tie
+use Rattle.file_refusals.proofs.parts_refusal.Statement.{statement}
+use Rattle.file_refusals.proofs.parts_refusal.Tie as tie
 
 first-count : tie.Need-returns-3
 unfolding partsRefusal

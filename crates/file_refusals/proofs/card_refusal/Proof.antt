@@ -2,9 +2,9 @@ use mathlib.Core.Path.{refl}
 use borrow.Author.Needs.{needs}
 use borrow.Author.Tests.{eq-eqb, ne-eqb}
 use Rattle.rules.specs.File.{cardRefusal}
-use Rattle.file.proofs.Refusals.{parts-first}
-use Rattle.file.proofs.sections.card_refusal.Statement.{statement}
-use Rattle.file.proofs.sections.card_refusal.Tie as tie
+use Rattle.file_refusals.proofs.Refusals.{parts-first}
+use Rattle.file_refusals.proofs.card_refusal.Statement.{statement}
+use Rattle.file_refusals.proofs.card_refusal.Tie as tie
 
 pub card-refusal-spec : {M : Type 1} → statement M
 unfolding cardRefusal

@@ -1,11 +1,11 @@
-// The sections of a file and the checks on them.
-ghost use Prim.Native.Nat.{_+_, _≤_, _<_};
+// 10 to 17: whether a card file or a session opens.
+ghost use Prim.Native.Nat.{_+_, _<_};
 ghost use mathlib.Core.Path.{_≡_};
 ghost use lib.ListN.{length};
-ghost use Rattle.memory.specs.Image.{bytes};
-ghost use Rattle.rules.specs.File.{count as countAt, memorySection, partsRefusal, cardRefusal, sessionRefusal};
+ghost use Rattle.rules.specs.File.{count as countAt, partsRefusal, cardRefusal, sessionRefusal};
 
-pub(crate) fn count(file: &[u8], at: usize) -> usize
+// "two bytes, low first"
+fn count(file: &[u8], at: usize) -> usize
     requires { ⌜ at + 1 < length (now file) ⌝ }
     ensures { λ r. ⌜ r ≡ countAt (now (file .entry)) at ⌝ }
     ensures { λ r. ⌜ r < 65536 ⌝ }
@@ -32,7 +32,7 @@ fn parts_refusal(file: &[u8], room: usize) -> u8
     if 7 < file[rules::FUSES_AT] { 14 } else { 0 }
 }
 
-pub(crate) fn card_refusal(file: &[u8], room: usize) -> u8
+pub fn card_refusal(file: &[u8], room: usize) -> u8
     ensures { λ r. ⌜ r ≡ cardRefusal (now (file .entry)) room ⌝ }
 {
     let parts = parts_refusal(file, room);
@@ -46,7 +46,7 @@ pub(crate) fn card_refusal(file: &[u8], room: usize) -> u8
     }
 }
 
-pub(crate) fn session_refusal(file: &[u8], room: usize) -> u8
+pub fn session_refusal(file: &[u8], room: usize) -> u8
     ensures { λ r. ⌜ r ≡ sessionRefusal (now (file .entry)) room ⌝ }
 {
     let parts = parts_refusal(file, room);
@@ -62,12 +62,4 @@ pub(crate) fn session_refusal(file: &[u8], room: usize) -> u8
         return 16;
     }
     if file.len() == end { 0 } else { 17 }
-}
-
-pub(crate) fn copy_memory(file: &[u8], memory: &mut [u8])
-    requires { ⌜ length (now memory) ≡ bytes ⌝ }
-    requires { ⌜ 2 + bytes ≤ length (now file) ⌝ }
-    ensures { λ _. ⌜ now (memory .exit) ≡ memorySection (now (file .entry)) ⌝ }
-{
-    memory::put(memory, 0, &file[rules::MEMORY_AT..rules::FUSE_COUNT_AT]);
 }

@@ -10,9 +10,9 @@ use lib.Dec.{eqb, ltb}
 use lib.ListN.{length}
 use Rattle.rules.specs.File.{stepsAt, sessionRefusal}
 use Rattle.rules.specs.Refusals.{longest}
-use Rattle.file.proofs.Refusals.{parts-first}
-use Rattle.file.proofs.sections.session_refusal.Statement.{statement}
-use Rattle.file.proofs.sections.session_refusal.Tie as tie
+use Rattle.file_refusals.proofs.Refusals.{parts-first}
+use Rattle.file_refusals.proofs.session_refusal.Statement.{statement}
+use Rattle.file_refusals.proofs.session_refusal.Tie as tie
 
 -- A session that is long enough: its count and its length are left to test.
 counted :
