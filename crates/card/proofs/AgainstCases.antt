@@ -3,8 +3,8 @@ use mathlib.Core.Path.{refl}
 use Rattle.rules.specs.Card.{refusalIn, pinIn}
 use Rattle.rules.specs.Computing.{the-card}
 use Rattle.rules.specs.CaseForms.{sample}
-use Rattle.card.specs.Contracts.{stepLeaves, stepAnswer, runLeaves, runAnswers, runRefused, flagsOf, flagsRefused, flagsHeld}
-use Rattle.card.specs.Cases.{Steps-answer, Steps-told, Runs-answer, Flags-told}
+use Rattle.card.specs.Contracts.{stepLeaves, stepAnswer, runLeaves, runAnswers, runRefused}
+use Rattle.card.specs.Cases.{Steps-answer, Steps-told, Runs-answer}
 
 pub steps-answer : Steps-answer
 unfolding the-card sample stepLeaves stepAnswer
@@ -50,7 +50,3 @@ runs-answer = (
   record { card = refl; done = refl; refusal = refl; pins = refl },
   record { card = refl; done = refl; refusal = refl; pins = refl },
 )
-
-pub flags-told : Flags-told
-unfolding the-card flagsOf flagsRefused flagsHeld
-flags-told = (refl, refl, refl)

@@ -1,5 +1,4 @@
 pub mod AgainstCases
-pub mod Ones
 pub mod HandedOn
 pub mod Walks
 pub mod Loop

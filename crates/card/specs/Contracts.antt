@@ -1,7 +1,7 @@
 -- What each call of the card answers and leaves, for every input.
 use Prim.Native.Nat.{ℕ}
 use mathlib.Core.Path.{_≡_}
-use mathlib.Core.Bool.{Bool, false, cond}
+use mathlib.Core.Bool.{cond}
 use mathlib.Core.List.{List, []}
 use lib.Dec.{eqb}
 use lib.ListN.{length}
@@ -9,11 +9,8 @@ use Rattle.rules.specs.declared.Answer.{Answer}
 use Rattle.rules.specs.declared.Answer.the-variants.{Refused}
 use Rattle.rules.specs.Steps.{pin}
 use Rattle.rules.specs.Card.{refusalIn, pinIn, stepped, answered, run, answersIn}
-use Rattle.volatile.specs.declared.Volatile.{Volatile}
-use Rattle.volatile.specs.Packed.{packed, unpacked, Given, cardOf, handedBack, madeUpWord}
+use Rattle.volatile.specs.Packed.{packed, Given, cardOf, handedBack}
 use Rattle.refusals.specs.Before.{givenRefusal, givenRunRefusal}
-use Rattle.card.specs.declared.FlagsAnswer.{FlagsAnswer}
-use Rattle.card.specs.declared.FlagsAnswer.the-variants.{Held, Refused as Barred}
 
 -- The card that a step leaves, and its answer.
 unfoldable pub stepLeaves : Given → ℕ → Given
@@ -56,17 +53,3 @@ pub record RunAnswered (g : Given) (steps answers : List ℕ) (left : Given) (co
   pub done : count ≡ length (runAnswers g steps (length answers))
   pub refusal : k ≡ runRefused g steps (length answers)
   pub pins : told ≡ answersIn (runAnswers g steps (length answers)) answers
-
--- "A separate call reads flags, refusing by 9".
-unfoldable pub flagsOf : Volatile → FlagsAnswer
-unfolding madeUpWord unpacked
-flagsOf v = cond (madeUpWord v) (Barred 9) (Held (unpacked v .sv) (unpacked v .p1) (unpacked v .r1) (unpacked v .e1))
-
--- The refusal in the flags' answer, 0 where it is none, and the flags SV, P1, R1 and E1, none where refused.
-unfoldable pub flagsRefused : FlagsAnswer → ℕ
-flagsRefused (Held sv p1 r1 e1) = 0
-flagsRefused (Barred k) = k
-
-unfoldable pub flagsHeld : FlagsAnswer → Bool × (Bool × (Bool × Bool))
-flagsHeld (Held sv p1 r1 e1) = (sv, (p1, (r1, e1)))
-flagsHeld (Barred k) = (false, (false, (false, false)))

@@ -1,14 +1,12 @@
-// The card, driven line by line: a step, a run, the flags, the tries left.
-use memory::is_set;
+// The card, driven line by line: a step, a run.
 use quick::Quick;
 use rules::Answer;
 use volatile::Volatile;
 ghost use mathlib.Core.Path.{_≡_};
 ghost use lib.ListN.{length};
-ghost use Rattle.rules.specs.Card.{triesLeft};
 ghost use Rattle.volatile.specs.Packed.{given};
 ghost use Rattle.refusals.specs.Before.{givenRefusal, givenRunRefusal};
-ghost use Rattle.card.specs.Contracts.{StepAnswered, StepTold, RunAnswered, flagsOf};
+ghost use Rattle.card.specs.Contracts.{StepAnswered, StepTold, RunAnswered};
 
 mod edges;
 mod in_programming;
@@ -38,17 +36,6 @@ pub struct Ran {
     pub volatile: Volatile,
     pub done: usize,
     pub refusal: u8,
-}
-
-// What the flags call tells.
-pub enum FlagsAnswer {
-    Held {
-        sv: bool,
-        p1: bool,
-        r1: bool,
-        e1: bool,
-    },
-    Refused(u8),
 }
 
 // The steps of a sound card, up to the first that is refused.
@@ -159,29 +146,4 @@ pub fn step(image: &mut [u8], fuses: u8, v: Volatile, n: u8) -> Stepped
         volatile: after,
         answer: Answer::Pin(told.pin),
     }
-}
-
-// SV, P1, R1 and E1, or 9.
-pub fn flags(v: Volatile) -> FlagsAnswer
-    ensures { λ r. ⌜ r ≡ flagsOf v ⌝ }
-{
-    if v.made_up() {
-        return FlagsAnswer::Refused(9);
-    }
-    FlagsAnswer::Held {
-        sv: is_set(v.flags, volatile::SV),
-        p1: is_set(v.flags, volatile::P1),
-        r1: is_set(v.flags, volatile::R1),
-        e1: is_set(v.flags, volatile::E1),
-    }
-}
-
-// The tries left: the ones in bits 96 to 103, none in an image too short for them.
-pub fn tries_left(image: &[u8]) -> u32
-    ensures { λ r. ⌜ r ≡ triesLeft (now (image .entry)) ⌝ }
-{
-    if image.len() <= 12 {
-        return 0;
-    }
-    u8::count_ones(image[12])
 }

@@ -3,7 +3,7 @@ use mathlib.Core.Path.{refl}
 use Rattle.rules.specs.Maker.{reset, walk, walkRefusal}
 use Rattle.rules.specs.CaseForms.{sample, cardFile, session}
 use Rattle.rules.specs.Computing.{the-card}
-use Rattle.card.specs.Contracts.{flagsOf}
+use Rattle.looks.specs.Flags.{flagsOf}
 use Rattle.maker.specs.Act.{made, inBuffer}
 use Rattle.file.specs.Opening.{refusalInCard, refusalInSession, cardAnswer, sessionAnswer, inMemory, handedSteps}
 use Rattle.exports.specs.Rendered.{flagBytes, madeOf, cardFileOf, sessionOf}

@@ -10,7 +10,7 @@ use lib.ListN.{take, replicate}
 use Rattle.rules.specs.Maker.{reset, walk, walkRefusal}
 use Rattle.rules.specs.CaseForms.{zero, no-answer, L1, L2, sample, cardFile, session}
 use Rattle.volatile.specs.Cases.{Gives, half}
-use Rattle.card.specs.Contracts.{flagsOf}
+use Rattle.looks.specs.Flags.{flagsOf}
 use Rattle.exports.specs.Rendered.{ofWalk, ofStep, flagBytes, isHigh}
 use Rattle.exports.specs.Told.{ActTold, CardTold, SessionTold}
 

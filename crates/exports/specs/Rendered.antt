@@ -5,8 +5,8 @@ use lib.Dec.{eqb}
 use Rattle.volatile.specs.Packed.{one}
 use Rattle.card.specs.declared.Told.{Told}
 use Rattle.walk.specs.declared.Walked.{Walked}
-use Rattle.card.specs.declared.FlagsAnswer.{FlagsAnswer}
-use Rattle.card.specs.Contracts.{flagsRefused, flagsHeld}
+use Rattle.looks.specs.declared.FlagsAnswer.{FlagsAnswer}
+use Rattle.looks.specs.Flags.{flagsRefused, flagsHeld}
 use Rattle.maker.specs.declared.Made.{Made}
 use Rattle.maker.specs.Act.{refusalIn as actRefused, countOf}
 use Rattle.rules.specs.File.{stepsAt}

@@ -3,10 +3,11 @@ ghost use mathlib.Core.Path.{_≡_};
 ghost use Rattle.rules.specs.Halves.{fresh};
 ghost use Rattle.rules.specs.Card.{triesLeft};
 ghost use Rattle.volatile.specs.Packed.{packed, given};
-ghost use Rattle.card.specs.Contracts.{StepTold, RunAnswered, flagsOf};
+ghost use Rattle.card.specs.Contracts.{StepTold, RunAnswered};
+ghost use Rattle.looks.specs.Flags.{flagsOf};
 ghost use Rattle.exports.specs.Rendered.{ofWalk, ofStep, flagBytes};
-use card::FlagsAnswer;
 use card::Told;
+use looks::FlagsAnswer;
 use volatile::Volatile;
 use walk::Walked;
 
@@ -142,7 +143,7 @@ pub extern "C" fn zhav_run(
 pub extern "C" fn zhav_flags(v: Volatile) -> ZhavFlags
     ensures { λ r. ⌜ r ≡ flagBytes (flagsOf v) ⌝ }
 {
-    let told = card::flags(v);
+    let told = looks::flags(v);
     match told {
         FlagsAnswer::Held {
             sv: sv,
@@ -171,5 +172,5 @@ pub extern "C" fn zhav_flags(v: Volatile) -> ZhavFlags
 pub extern "C" fn zhav_tries_left(image: &[u8]) -> u32
     ensures { λ r. ⌜ r ≡ triesLeft (now (image .entry)) ⌝ }
 {
-    card::tries_left(image)
+    looks::tries_left(image)
 }

@@ -15,7 +15,7 @@ pub fn report(memory: &mut [u8], fuses: u8, steps: &[u8], given: usize, out: &mu
 {
     let mut answers = [0u8; rules::LONGEST];
     let ran = card::run(memory, fuses, Volatile::fresh(), steps, &mut answers);
-    let left = card::tries_left(memory);
+    let left = looks::tries_left(memory);
     report::four_lines(ran.done, given, ran.refusal, &answers, left, out)
 }
 

@@ -104,7 +104,7 @@ fn visit(memory: &mut [u8; 174], halves: Halves, off: usize) -> Seen {
     let opened = send(memory, on, before_last(&steps, opening.count, off));
     let there = go_to_178(memory, opened);
     let p = pin(memory, there);
-    let left = card::tries_left(memory);
+    let left = looks::tries_left(memory);
     let after = send(memory, there, &[16, 0]);
     Seen {
         refusal: opening.refusal,

@@ -1,5 +1,5 @@
 use Rattle.exports.proofs.Shown.{as-byte}
-use Rattle.card.specs.Contracts.{flagsRefused, flagsHeld}
+use Rattle.looks.specs.Flags.{flagsRefused, flagsHeld}
 use Rattle.exports.specs.Rendered.{flagBytes}
 use borrow.Author.Needs.{needs}
 use Rattle.exports.proofs.steps.zhav_flags.Statement.{statement}

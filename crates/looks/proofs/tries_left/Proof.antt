@@ -2,10 +2,10 @@ use denote.Ref.{now}
 use lib.ListN.{getD, List·getD-eq-default}
 use lib.Count.{onesIn}
 use Rattle.rules.specs.Card.{triesLeft}
-use Rattle.card.proofs.Ones.{ones-of-byte}
+use Rattle.looks.proofs.Ones.{ones-of-byte}
 use borrow.Author.Needs.{needs}
-use Rattle.card.proofs.tries_left.Statement.{statement}
-use Rattle.card.proofs.tries_left.Tie as tie
+use Rattle.looks.proofs.tries_left.Statement.{statement}
+use Rattle.looks.proofs.tries_left.Tie as tie
 
 returns : tie.Need-returns
 unfolding triesLeft onesIn

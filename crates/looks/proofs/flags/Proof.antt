@@ -1,9 +1,9 @@
 use mathlib.Core.Path.{sym, _∙_}
 use Rattle.volatile.specs.Packed.{unpacked}
-use Rattle.card.specs.Contracts.{flagsOf}
+use Rattle.looks.specs.Flags.{flagsOf}
 use borrow.Author.Needs.{needs}
-use Rattle.card.proofs.flags.Statement.{statement}
-use Rattle.card.proofs.flags.Tie as tie
+use Rattle.looks.proofs.flags.Statement.{statement}
+use Rattle.looks.proofs.flags.Tie as tie
 
 returns : tie.Need-returns
 unfolding flagsOf

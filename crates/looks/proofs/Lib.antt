@@ -1,0 +1,2 @@
+pub mod AgainstCases
+mod Ones
