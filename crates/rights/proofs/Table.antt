@@ -2,18 +2,12 @@
 use Prim.Native.Nat.{ℕ, zero, suc, _+_, _-_, _≤_, _<_}
 use native.Mathlib.Omega.{arith}
 use mathlib.Core.Path.{_≡_, refl, sym}
-use mathlib.Core.Bool.{Bool, true, false, not}
+use mathlib.Core.Bool.{Bool, true, false}
 use mathlib.Core.List.{List, [], _∷_, _++_, map}
 use lib.ListN.{length, getD}
 use lib.Seq.{getD-append-add}
-use mir.Val.{boolByte}
 use Rattle.rules.specs.declared.Right.{Right}
 use Rattle.rules.specs.Rights.{right, no, table, others}
-
--- The index of a level.
-pub level-below : (l1 : Bool) → boolByte (not l1) < 2
-level-below true = omega arith
-level-below false = omega arith
 
 -- A row as the code's table has it, and what the code makes of it.
 abbrev spelled : Right → List ℕ
@@ -27,14 +21,15 @@ within [] r h = absurd (omega arith)
 within (x ∷ rows) zero h = refl
 within (x ∷ rows) (suc r) h = within rows r (omega arith)
 
--- The code's table is computed from the one of the rules, all rows of both levels at once.
-pub in-table :
-    (l1 : Bool) (r : ℕ) → r < 10 →
-    said (getD (getD (map spelled (table true) ∷ map spelled (table false) ∷ []) (boolByte (not l1)) []) r []) ≡
-    getD (table l1 ++ others) r (right no no no)
+-- A level of the code's table, computed from the one of the rules, all rows at once.
+abbrev pub spelled-level : Bool → List (List ℕ)
+spelled-level l1 = map spelled (table l1)
+
+pub in-level :
+    (l1 : Bool) (r : ℕ) → r < 10 → said (getD (spelled-level l1) r []) ≡ getD (table l1 ++ others) r (right no no no)
 unfolding table
-in-table true r h = within (table true) r h
-in-table false r h = within (table false) r h
+in-level true r h = within (table true) r h
+in-level false r h = within (table false) r h
 
 after :
     (rows : List Right) (r : ℕ) → length rows ≤ r →

@@ -173,9 +173,13 @@ pub fn right_of(l1: bool, z: Zone) -> Right
     if MFZ < row {
         return right_apart(row);
     }
-    let table = RIGHTS;
-    let level = !l1 as usize;
-    let asked = table[level][row];
+    // A constant is built on the stack at each use: of this one only the half that is asked for.
+    let levels = RIGHTS;
+    let mut level = levels[1];
+    if l1 {
+        level = levels[0];
+    }
+    let asked = level[row];
     Right {
         read: asked[0],
         write: asked[1],
