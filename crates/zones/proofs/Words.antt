@@ -1,0 +1,58 @@
+-- The zones by words of 16 addresses.
+use Prim.Native.Nat.{ℕ, zero, suc, _*_, _/_, _≤_, _<_}
+use native.Mathlib.Omega.{arith}
+use native.Mathlib.Decide.{decLt}
+use mathlib.Core.Path.{_≡_, refl, sym, _∙_}
+use mathlib.Core.Bool.{Bool, true, false, _||_}
+use lib.Dec.{eqb}
+use borrow.Author.Tests.{eqb-true, ne-eqb}
+use Rattle.memory.proofs.Below.{all, below}
+use Rattle.rules.specs.declared.Zone.{Zone}
+use Rattle.rules.specs.declared.Zone.the-variants.{Gap}
+use Rattle.rules.specs.Zones.{zone, row}
+use Rattle.rules.proofs.PastLast.{past-all}
+use Rattle.zones.proofs.Rows.{row-injective}
+
+-- The constant of an arm is the zone of that word's first address.
+pub of-arm : {z : Zone} {w k : ℕ} → w ≡ k → z ≡ zone (16 * k) → z ≡ zone (16 * w)
+of-arm e h = rw e h
+
+-- What the last arm knows of the word: it is none of the first n.
+abbrev Passed : ℕ → ℕ → Type 0
+Passed zero w = Unit {0}
+Passed (suc n) w = Passed n w × (w ≡ n → ⊥)
+
+beyond : (n w : ℕ) → Passed n w → n ≤ w
+beyond zero w p = omega arith
+beyond (suc n) w p =
+    let h : n ≤ w = beyond n w (p .0) in
+    let other : (w ≡ n) → ⊥ = p .1 in
+    omega arith
+
+pub no-word : (w : ℕ) → Passed 95 w → Gap ≡ zone (16 * w)
+no-word w p =
+    let h : 95 ≤ w = beyond 95 w p in
+    past-all (16 * w) (omega arith)
+
+-- "Only the word of 1481 is mixed": every other address lies where its word's first one does.
+unfoldable of-one-zone : ℕ → Bool
+unfolding zone
+of-one-zone a = eqb a 1481 || eqb (row (zone (16 * (a / 16)))) (row (zone a))
+
+words : all 1520 of-one-zone ≡ true
+unfolding all of-one-zone
+words = refl
+
+apart : (b c : Bool) → b ≡ false → (b || c) ≡ true → c ≡ true
+apart b c e t = rw e at t
+
+pub by-word : (a : ℕ) → (a ≡ 1481 → ⊥) → zone (16 * (a / 16)) ≡ zone a
+unfolding of-one-zone
+by-word a h = go (decLt a 1520)
+  where
+    go : Dec (a < 1520) → zone (16 * (a / 16)) ≡ zone a
+    go (yes l) =
+        row-injective (zone (16 * (a / 16))) (zone a)
+        (eqb-true (row (zone (16 * (a / 16)))) (row (zone a))
+        (apart (eqb a 1481) (eqb (row (zone (16 * (a / 16)))) (row (zone a))) (ne-eqb a 1481 h) (below 1520 of-one-zone words a l)))
+    go (no l) = sym (past-all (16 * (a / 16)) (omega arith)) ∙ past-all a (omega arith)
