@@ -173,7 +173,7 @@ pub fn right_of(l1: bool, z: Zone) -> Right
     if MFZ < row {
         return right_apart(row);
     }
-    // A constant is built on the stack at each use: of this one only the half that is asked for.
+    // A constant is built on the stack at each use; taken so, only one level of it is. Level 1 comes first.
     let levels = RIGHTS;
     let mut level = levels[1];
     if l1 {

@@ -22,29 +22,29 @@ abbrev Passed : ℕ → ℕ → Type 0
 Passed zero w = Unit {0}
 Passed (suc n) w = Passed n w × (w ≡ n → ⊥)
 
-beyond : (n w : ℕ) → Passed n w → n ≤ w
-beyond zero w p = omega arith
-beyond (suc n) w p =
-    let h : n ≤ w = beyond n w (p .0) in
+past-passed : (n w : ℕ) → Passed n w → n ≤ w
+past-passed zero w p = omega arith
+past-passed (suc n) w p =
+    let h : n ≤ w = past-passed n w (p .0) in
     let other : (w ≡ n) → ⊥ = p .1 in
     omega arith
 
 pub no-word : (w : ℕ) → Passed 95 w → Gap ≡ zone (16 * w)
 no-word w p =
-    let h : 95 ≤ w = beyond 95 w p in
+    let h : 95 ≤ w = past-passed 95 w p in
     past-all (16 * w) (omega arith)
 
--- "Only the word of 1481 is mixed": every other address lies where its word's first one does.
+-- 02, W5: "Only the word of 1481 is mixed": every other address lies where its word's first one does.
 unfoldable of-one-zone : ℕ → Bool
 unfolding zone
 of-one-zone a = eqb a 1481 || eqb (row (zone (16 * (a / 16)))) (row (zone a))
 
-words : all 1520 of-one-zone ≡ true
+all-of-one-zone : all 1520 of-one-zone ≡ true
 unfolding all of-one-zone
-words = refl
+all-of-one-zone = refl
 
-apart : (b c : Bool) → b ≡ false → (b || c) ≡ true → c ≡ true
-apart b c e t = rw e at t
+or-second : (b c : Bool) → b ≡ false → (b || c) ≡ true → c ≡ true
+or-second b c e t = rw e at t
 
 pub by-word : (a : ℕ) → (a ≡ 1481 → ⊥) → zone (16 * (a / 16)) ≡ zone a
 unfolding of-one-zone
@@ -54,5 +54,5 @@ by-word a h = go (decLt a 1520)
     go (yes l) =
         row-injective (zone (16 * (a / 16))) (zone a)
         (eqb-true (row (zone (16 * (a / 16)))) (row (zone a))
-        (apart (eqb a 1481) (eqb (row (zone (16 * (a / 16)))) (row (zone a))) (ne-eqb a 1481 h) (below 1520 of-one-zone words a l)))
+        (or-second (eqb a 1481) (eqb (row (zone (16 * (a / 16)))) (row (zone a))) (ne-eqb a 1481 h) (below 1520 of-one-zone all-of-one-zone a l)))
     go (no l) = sym (past-all (16 * (a / 16)) (omega arith)) ∙ past-all a (omega arith)

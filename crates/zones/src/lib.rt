@@ -4,8 +4,7 @@ ghost use Prim.Native.Nat.{_*_};
 ghost use mathlib.Core.Path.{_≡_};
 ghost use Rattle.rules.specs.Zones.{zone};
 
-// The zone of a word's first address. One arm a word: a match of single numbers becomes a table in read-only data, a `const` array is
-// built on the stack at each use, and neighbours in one arm become a range again.
+// The zone of a word's first address. An arm for each word: so the constants stand in read-only data, as no array's would.
 fn of_word(word: u32) -> Zone
     ensures { λ r. ⌜ r ≡ zone (16 * word) ⌝ }
 {
@@ -109,7 +108,7 @@ fn of_word(word: u32) -> Zone
     }
 }
 
-// The zone of an address: its word's, but that the fuse of EC_EN has 1481 alone.
+// The zone of an address is its word's. 02, W5: "Only the word of 1481 is mixed, so that one bit keeps its test."
 pub fn zone_of(a: u32) -> Zone
     ensures { λ r. ⌜ r ≡ zone a ⌝ }
 {

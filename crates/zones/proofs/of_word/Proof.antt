@@ -3,7 +3,7 @@ use Rattle.zones.proofs.Words.{of-arm, no-word}
 use Rattle.zones.proofs.of_word.Statement.{statement}
 use Rattle.zones.proofs.of_word.Tie as tie
 
--- One answer for every word: none names a word or a zone.
+-- The same law for each arm; the last answer is for a word that has none.
 pub of-word-spec : {M : Type 1} → statement M
 unfolding zone between
 of-word-spec =
