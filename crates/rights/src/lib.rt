@@ -48,7 +48,7 @@ const FUSE_ECEN: usize = 12;
 
 const FUSE_ISS: usize = 13;
 
-// Read, write, erase: two levels by ten zones, FZ, IZ, SC, SCAC, CPZ, AZ, EZ, EC, MTZ, MFZ.
+// Read, write, erase: two levels by ten zones, level 1 and level 2, each FZ, IZ, SC, SCAC, CPZ, AZ, EZ, EC, MTZ, MFZ.
 const RIGHTS: [[[u8; 3]; 10]; 2] = [
     [
         [YES, NO, NO],
@@ -173,7 +173,7 @@ pub fn right_of(l1: bool, z: Zone) -> Right
     if MFZ < row {
         return right_apart(row);
     }
-    // A constant is built on the stack at each use; taken so, only one level of it is. Level 1 comes first.
+    // A constant is built on the stack at each use; taken so, only one level of it is.
     let levels = RIGHTS;
     let mut level = levels[1];
     if l1 {

@@ -54,5 +54,6 @@ by-word a h = go (decLt a 1520)
     go (yes l) =
         row-injective (zone (16 * (a / 16))) (zone a)
         (eqb-true (row (zone (16 * (a / 16)))) (row (zone a))
-        (or-second (eqb a 1481) (eqb (row (zone (16 * (a / 16)))) (row (zone a))) (ne-eqb a 1481 h) (below 1520 of-one-zone all-of-one-zone a l)))
+        (or-second (eqb a 1481) (eqb (row (zone (16 * (a / 16)))) (row (zone a)))
+        (ne-eqb a 1481 h) (below 1520 of-one-zone all-of-one-zone a l)))
     go (no l) = sym (past-all (16 * (a / 16)) (omega arith)) ∙ past-all a (omega arith)
