@@ -34,10 +34,14 @@ no-word w p =
     let h : 95 ≤ w = past-passed 95 w p in
     past-all (16 * w) (omega arith)
 
+-- The first address of an address's word.
+abbrev word-start : ℕ → ℕ
+word-start a = 16 * (a / 16)
+
 -- 02, W5: "Only the word of 1481 is mixed": every other address lies where its word's first one does.
 unfoldable of-one-zone : ℕ → Bool
 unfolding zone
-of-one-zone a = eqb a 1481 || eqb (row (zone (16 * (a / 16)))) (row (zone a))
+of-one-zone a = eqb a 1481 || eqb (row (zone (word-start a))) (row (zone a))
 
 all-of-one-zone : all 1520 of-one-zone ≡ true
 unfolding all of-one-zone
@@ -46,14 +50,13 @@ all-of-one-zone = refl
 or-second : (b c : Bool) → b ≡ false → (b || c) ≡ true → c ≡ true
 or-second b c e t = rw e at t
 
-pub by-word : (a : ℕ) → (a ≡ 1481 → ⊥) → zone (16 * (a / 16)) ≡ zone a
+pub by-word : (a : ℕ) → (a ≡ 1481 → ⊥) → zone (word-start a) ≡ zone a
 unfolding of-one-zone
 by-word a h = go (decLt a 1520)
   where
-    go : Dec (a < 1520) → zone (16 * (a / 16)) ≡ zone a
+    go : Dec (a < 1520) → zone (word-start a) ≡ zone a
     go (yes l) =
-        row-injective (zone (16 * (a / 16))) (zone a)
-        (eqb-true (row (zone (16 * (a / 16)))) (row (zone a))
-        (or-second (eqb a 1481) (eqb (row (zone (16 * (a / 16)))) (row (zone a)))
-        (ne-eqb a 1481 h) (below 1520 of-one-zone all-of-one-zone a l)))
-    go (no l) = sym (past-all (16 * (a / 16)) (omega arith)) ∙ past-all a (omega arith)
+        let tested = below 1520 of-one-zone all-of-one-zone a l in
+        row-injective (zone (word-start a)) (zone a)
+        (eqb-true (row (zone (word-start a))) (row (zone a)) (or-second (eqb a 1481) _ (ne-eqb a 1481 h) tested))
+    go (no l) = sym (past-all (word-start a) (omega arith)) ∙ past-all a (omega arith)
