@@ -1,4 +1,5 @@
 pub mod Below
+pub mod Arms
 pub mod Laws
 pub mod Buffer
 pub mod Determined

@@ -1,2 +1,3 @@
 pub mod AgainstTable
 pub mod PastLast
+pub mod Rows

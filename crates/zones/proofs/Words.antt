@@ -1,33 +1,22 @@
 -- The zones by words of 16 addresses.
-use Prim.Native.Nat.{ℕ, zero, suc, _*_, _/_, _≤_, _<_}
+use Prim.Native.Nat.{ℕ, _*_, _/_, _≤_, _<_}
 use native.Mathlib.Omega.{arith}
 use native.Mathlib.Decide.{decLt}
 use mathlib.Core.Path.{_≡_, refl, sym, _∙_}
 use mathlib.Core.Bool.{Bool, true, false, _||_}
 use lib.Dec.{eqb}
 use borrow.Author.Tests.{eqb-true, ne-eqb}
+use Rattle.memory.proofs.Arms.{Passed, past-passed}
 use Rattle.memory.proofs.Below.{all, below}
 use Rattle.rules.specs.declared.Zone.{Zone}
 use Rattle.rules.specs.declared.Zone.the-variants.{Gap}
 use Rattle.rules.specs.Zones.{zone, row}
 use Rattle.rules.proofs.PastLast.{past-all}
-use Rattle.zones.proofs.Rows.{row-injective}
+use Rattle.rules.proofs.Rows.{row-injective}
 
 -- The constant of an arm is the zone of that word's first address.
 pub of-arm : {z : Zone} {w k : ℕ} → w ≡ k → z ≡ zone (16 * k) → z ≡ zone (16 * w)
 of-arm e h = rw e h
-
--- What the last arm knows of the word: it is none of the first n.
-abbrev Passed : ℕ → ℕ → Type 0
-Passed zero w = Unit {0}
-Passed (suc n) w = Passed n w × (w ≡ n → ⊥)
-
-past-passed : (n w : ℕ) → Passed n w → n ≤ w
-past-passed zero w p = omega arith
-past-passed (suc n) w p =
-    let h : n ≤ w = past-passed n w (p .0) in
-    let other : (w ≡ n) → ⊥ = p .1 in
-    omega arith
 
 pub no-word : (w : ℕ) → Passed 95 w → Gap ≡ zone (16 * w)
 no-word w p =
