@@ -10,18 +10,18 @@ use borrow.Author.Tests.{eqb-true, ne-eqb, ltb-true, not-true}
 use Rattle.memory.specs.Image.{bit, erasedWord}
 use Rattle.memory.proofs.Laws.{bit-written, bit-erased, length-written, length-erased}
 use Rattle.rules.specs.declared.Zone.{Zone}
-use Rattle.rules.specs.declared.Zone.the-variants.{FZ, IZ, SC, SCAC, CPZ, AZ, EZ, EC, MTZ, MFZ}
-use Rattle.rules.specs.declared.Zone.the-variants.{Block, FuseMF, FuseECEN, FuseISS, Gap}
+use Rattle.rules.specs.declared.Zone.the-variants.{SC, SCAC, AZ, EZ, EC, MTZ, FuseECEN}
 use Rattle.rules.specs.declared.Operation.{Operation}
 use Rattle.rules.specs.declared.Operation.the-variants.{Nothing, WriteBit, EraseWord, EraseZone}
 use Rattle.rules.specs.declared.Operation.the-variants.{WriteBlock, EraseBlock, BlowMF, BlowECEN, BlowISS}
 use Rattle.rules.specs.Zones.{between, zone, row, isFuse}
-use Rattle.rules.specs.Rights.{Held, level1, granted, rights, mayRead, no}
+use Rattle.rules.specs.Rights.{Held, level1, granted, rights, mayRead}
 use Rattle.rules.specs.Programming.{barred, asks, mayProgram, effect, operation, memoryAfter, turns, opens}
 use Rattle.rules.specs.Demands.{hidden}
 use Rattle.theorems.proofs.Tests.{all, beq-true, and-left, and-right, every, of-every}
 use Rattle.rules.proofs.PastLast.{past-all}
-use Rattle.theorems.proofs.ZoneCases.{hidden-past, everywhere}
+use Rattle.rules.proofs.Rows.{at-row, each-zone}
+use Rattle.theorems.proofs.ZoneCases.{askedWhere, hidden-past, everywhere}
 
 is : Zone → Zone → Bool
 is z y = eqb (row z) (row y)
@@ -57,12 +57,9 @@ module _ (h : Held) where
   abbrev reads : Zone → Bool → Bool → Bool
   reads z fus iss = Bool·beq (granted (rights (fus && iss) z .read) (unopened false fus iss)) (readable z)
 
-  abbrev asked : Bool → Bool → Bool → Zone → ℕ
-  asked l1 latch bar z = cond latch (cond (is z EC && bar) no (rights l1 z .erase)) (rights l1 z .write)
-
   abbrev programs : Zone → Bool → Bool → Bool → Bool → Bool
   programs z fus iss latch bar =
-      Bool·beq (granted (asked (fus && iss) latch bar z) (unopened (h .r1) fus iss)) (allowed (fus && iss) latch z) &&
+      Bool·beq (granted (askedWhere (fus && iss) latch bar z) (unopened (h .r1) fus iss)) (allowed (fus && iss) latch z) &&
       (not (allowed (fus && iss) latch z) || mild (effect (fus && iss) latch z) z)
 
   abbrev agrees-at : Zone → Bool → Bool → Bool
@@ -73,22 +70,8 @@ module _ (h : Held) where
   agrees z = every (λ fus. every (agrees-at z fus))
 
   agreed : (z : Zone) → agrees z ≡ true
-  unfolding agrees
-  agreed FZ = refl
-  agreed IZ = refl
-  agreed SC = refl
-  agreed SCAC = refl
-  agreed CPZ = refl
-  agreed AZ = refl
-  agreed EZ = refl
-  agreed EC = refl
-  agreed MTZ = refl
-  agreed MFZ = refl
-  agreed Block = refl
-  agreed FuseMF = refl
-  agreed FuseECEN = refl
-  agreed FuseISS = refl
-  agreed Gap = refl
+  unfolding agrees at-row all
+  agreed = each-zone agrees refl
 
   module _ (z : Zone) where
     abbrev l1 : Bool
@@ -107,12 +90,12 @@ module _ (h : Held) where
           of-every (programs z (h .fus) (h .iss) latch)
           (of-every (λ l. every (programs z (h .fus) (h .iss) l)) (and-right (reads z (h .fus) (h .iss)) _ agreed-at) latch) bar
 
-      program-agrees : granted (asked l1 latch bar z) (unopened (h .r1) (h .fus) (h .iss)) ≡ allowed l1 latch z
+      program-agrees : granted (askedWhere l1 latch bar z) (unopened (h .r1) (h .fus) (h .iss)) ≡ allowed l1 latch z
       program-agrees = beq-true _ _ (and-left _ _ programs-agree)
 
       effect-mild : (not (allowed l1 latch z) || mild (effect l1 latch z) z) ≡ true
       effect-mild =
-          and-right (Bool·beq (granted (asked l1 latch bar z) (unopened (h .r1) (h .fus) (h .iss))) (allowed l1 latch z)) _ programs-agree
+          and-right (Bool·beq (granted (askedWhere l1 latch bar z) (unopened (h .r1) (h .fus) (h .iss))) (allowed l1 latch z)) _ programs-agree
 
   -- The same of whatever is there, SV being 0.
   without-sv : (r1 : Bool) → h .sv ≡ false → h .r1 ≡ r1 → h ≡ unopened r1 (h .fus) (h .iss)
