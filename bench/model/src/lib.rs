@@ -3,6 +3,7 @@
 //! The card has a lasting half, 174 bytes of memory and a fuse byte, and a
 //! volatile half, handed in and back by value as [`Volatile`]. A step is a byte
 //! of line levels (see [`lines`]); [`step`] carries out one and [`run`] many.
+//! [`reason()`] tells why the fall of CLK would change nothing.
 //! [`maker`] writes the steps of a reader's usual acts, the openers take card
 //! and session files apart, and [`session`] prints what a session leads to.
 //!
@@ -20,6 +21,7 @@ mod file;
 pub mod fuses;
 pub mod lines;
 pub mod maker;
+pub mod reason;
 pub mod refusal;
 mod session;
 mod volatile;
@@ -30,6 +32,7 @@ pub mod mutate;
 
 pub use card::{run, step, tries_left, Card, RunResult, StepResult, BYTES, MOST_STEPS};
 pub use file::{open_card_file, open_session, step_section, CARD_FILE_BYTES, SESSION_HEAD_BYTES};
+pub use reason::reason;
 pub use session::session;
 pub use volatile::{flags, state_check, Flags, Volatile, LAST_ADDRESS};
 

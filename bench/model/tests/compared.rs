@@ -2,7 +2,7 @@
 
 mod common;
 
-use common::compare::{same_act, same_file, same_run, same_step};
+use common::compare::{same_act, same_file, same_reason, same_run, same_step};
 use common::plain::{sound, Plain};
 use common::Chance;
 use model::{step, Volatile};
@@ -32,6 +32,11 @@ fn acts() {
 #[test]
 fn files() {
     all(4, 2_000, same_file);
+}
+
+#[test]
+fn reasons() {
+    all(5, 200_000, same_reason);
 }
 
 /// CLK's fall at every address, under all flags, with and without programming.

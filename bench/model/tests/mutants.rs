@@ -5,7 +5,7 @@
 
 mod common;
 
-use common::compare::{same_act, same_file, same_run, same_step};
+use common::compare::{same_act, same_file, same_reason, same_run, same_step};
 use common::Chance;
 use model::mutate::{choose, WRONG};
 
@@ -16,6 +16,9 @@ fn noticed(seed: u64) -> Option<(u32, &'static str)> {
         for _ in 0..40 {
             if !same_step(&mut chance) {
                 return Some((round, "step"));
+            }
+            if !same_reason(&mut chance) {
+                return Some((round, "reason"));
             }
         }
         if !same_act(&mut chance) {

@@ -6,8 +6,8 @@ use super::{
     card_file, random_memory, random_sound, random_step, random_volatile, session_file, Chance,
 };
 use model::{
-    maker, open_card_file, open_session, run, session, state_check, step, step_section, StepResult,
-    Volatile,
+    maker, open_card_file, open_session, reason, run, session, state_check, step, step_section,
+    StepResult, Volatile,
 };
 
 /// Whether the card and the plain one agree on one step from a chance state.
@@ -40,6 +40,24 @@ pub fn same_step(chance: &mut Chance) -> bool {
     let result = step(&mut memory, fuses, volatile, next);
     (result.answer, result.fuses, result.volatile) == (expected, plain.fuses, plain.v)
         && memory[..] == plain.memory()
+}
+
+/// Whether the two give the same reason in a chance state.
+pub fn same_reason(chance: &mut Chance) -> bool {
+    let mut image = random_memory(chance).to_vec();
+    if chance.one_in(20) {
+        image.resize(chance.pick(&[0, 173, 175, 348]), 0);
+    }
+    let fuses = match chance.below(20) {
+        0 => chance.pick(&[8, 9, 15, 255]),
+        _ => chance.byte() & 7,
+    };
+    let volatile = if chance.one_in(8) {
+        random_volatile(chance)
+    } else {
+        random_sound(chance)
+    };
+    reason(&image, fuses, volatile) == plain::reason(&image, fuses, volatile)
 }
 
 /// A session of a reader's acts with some chance steps among them.

@@ -274,6 +274,73 @@ impl Plain {
             }
         }
     }
+
+    /// Whether the operation takes effect, told by an image on which it shows.
+    /// A blow shows where the fuse is unblown; neither MF nor EC_EN is asked for
+    /// at a fuse, so both may be unblown for it.
+    fn works(&self) -> bool {
+        let mut card = self.clone();
+        card.bits = vec![!self.v.latch; 1392];
+        if self.v.address >= 1408 {
+            card.fuses |= 3;
+        }
+        let before = card.clone();
+        card.operate();
+        card.bits != before.bits || card.fuses != before.fuses
+    }
+
+    /// The same card with what the reason of that number misses.
+    fn granted(mut self, number: u8) -> Self {
+        match number {
+            5 => self.v.sv = true,
+            6 => self.v.p1 = true,
+            7 => self.v.e1 = true,
+            8 => self.fuses |= 1,
+            9 => self.fuses |= 4,
+            _ => self.v.lines |= 32,
+        }
+        self
+    }
+
+    /// The first reason why CLK's fall would change nothing. A thing is asked for
+    /// if the operation doesn't take effect without it, all others granted. In
+    /// memory the level stays: neither ISS nor FUS is granted there.
+    fn reason(&self) -> u8 {
+        let address = self.v.address;
+        if !self.v.programming {
+            return 1;
+        }
+        if (1424..=1503).contains(&address) && address != 1481 {
+            return 2;
+        }
+        if lines(self.v.lines).rst != (address >= 1408) {
+            return 3;
+        }
+        let things = if address < 1392 { 5..=8 } else { 5..=10 };
+        let works_without = |left: u8| {
+            let granted = things.clone().filter(|&number| number != left);
+            granted.fold(self.clone(), Plain::granted).works()
+        };
+        if !works_without(0) {
+            return 4;
+        }
+        let missing = |number: &u8| !works_without(*number);
+        things.clone().find(missing).unwrap_or(0)
+    }
+}
+
+/// The reason, after its checks.
+pub fn reason(memory: &[u8], fuses: u8, v: Volatile) -> Result<u8, u8> {
+    if memory.len() != 174 {
+        return Err(10);
+    }
+    if fuses > 7 {
+        return Err(14);
+    }
+    if !sound(v) {
+        return Err(9);
+    }
+    Ok(Plain::new(memory, fuses, v).reason())
 }
 
 pub struct Ran {
