@@ -16,6 +16,11 @@
  *
  * A refused call gives a number of ZhavRefusal and changes nothing, but for a run
  * that ends in a refused step: the steps before it are done.
+ *
+ * What changed, newest first. The middle number goes up where an old caller would
+ * break, the last one otherwise.
+ *   0.1.1  zhav_reason: why a write would do nothing. zhav_version.
+ *   0.1.0  The card, the step maker, the card file and the session.
  */
 
 #ifndef ZHAVDURGON_H
@@ -26,7 +31,7 @@
 
 #define ZHAV_VERSION_MAJOR 0
 #define ZHAV_VERSION_MINOR 1
-#define ZHAV_VERSION_PATCH 0
+#define ZHAV_VERSION_PATCH 1
 /* Major, minor and patch as one number, to be compared in #if. */
 #define ZHAV_VERSION \
     (ZHAV_VERSION_MAJOR * 10000 + ZHAV_VERSION_MINOR * 100 + ZHAV_VERSION_PATCH)
@@ -127,6 +132,40 @@ typedef struct {
     uint8_t sv, p1, r1, e1, refusal;
 } ZhavFlags;
 
+/*
+ * Why CLK's fall would change nothing by right: the first that holds, and what to do
+ * about it.
+ */
+enum ZhavReason {
+    ZHAV_RIGHT_IS_THERE = 0, /* the right is there: lower PGM, then CLK (a write on a 0, an erase
+                                of 1s and a second blow of MF or EC_EN have it too, and change
+                                nothing) */
+    ZHAV_NO_PROGRAMMING = 1, /* no programming under way: with VCC on and CLK low raise PGM, set
+                                I/O, raise CLK, and ask before it falls (I/O low writes, high
+                                erases) */
+    ZHAV_NOTHING_STORED = 2, /* the address stores nothing: go elsewhere (1424 to 1480 and 1482
+                                to 1503 store nothing) */
+    ZHAV_WRONG_RST = 3,      /* RST at the wrong level: before CLK rises, raise it at a fuse,
+                                lower it elsewhere (its fall goes to address 0) */
+    ZHAV_NEVER_ALLOWED = 4,  /* never allowed for this zone at this level: no flag helps, level 1
+                                may allow it (FUS high with ISS unblown; a fuse is never erased;
+                                level 2 with EC_EN blown erases in EC at 1232 only) */
+    ZHAV_SV_MISSING = 5,     /* SV missing: open the card first */
+    ZHAV_P1_MISSING = 6,     /* P1 missing: arrive at 176 while its bit is 1 */
+    ZHAV_E1_MISSING = 7,     /* E1 missing: show the erase key at level 2 first, then, with EC_EN
+                                unblown, write a 1 of EC to 0 (address 0 clears E1) */
+    ZHAV_MF_BLOWN = 8,       /* MF blown: for good, MFZ stays as it is */
+    ZHAV_ISS_BLOWN = 9,      /* ISS blown: for good, the block word does nothing any more, and no
+                                fuse can be blown */
+    ZHAV_FUS_LOW = 10,       /* FUS low: raise it before CLK rises */
+    ZHAV_UNANSWERED = 255    /* beside a refusal */
+};
+
+/* The reason, ZHAV_UNANSWERED where refused, and the refusal. */
+typedef struct {
+    uint8_t reason, refusal;
+} ZhavWhy;
+
 /* The count of steps written, 0 where refused, and the refusal. */
 typedef struct {
     size_t count;
@@ -144,6 +183,9 @@ typedef struct {
     size_t first, steps;
     uint8_t fuses, refusal;
 } ZhavSession;
+
+/* The library's own ZHAV_VERSION, to be compared with this header's. Never refused. */
+uint32_t zhav_version(void);
 
 /* The volatile half of a fresh card: all lines low. Never refused. */
 ZhavVolatile zhav_fresh(void);
@@ -178,6 +220,16 @@ ZhavFlags zhav_flags(ZhavVolatile v);
 /* The tries left: the 1s in bits 96 to 103, 0 to 8; 0 for an image of under 13
  * bytes. Never refused. */
 uint32_t zhav_tries_left(const uint8_t *image, size_t image_len);
+
+/*
+ * Why CLK's fall would change nothing by right, or that the right is there: a
+ * ZhavReason. PGM is taken as low already; while it is high CLK's fall itself is
+ * refused, by 4. Ask while programming is under way, after CLK has risen and before
+ * it falls: afterwards it is always ZHAV_NO_PROGRAMMING. RST and FUS can't change
+ * then (3), so what they lack is mended after CLK's fall. The image is not changed.
+ * Refused, in this order, by 10, 14 and 9.
+ */
+ZhavWhy zhav_reason(const uint8_t *image, size_t image_len, uint8_t fuses, ZhavVolatile v);
 
 /*
  * The steps of a reader's usual acts, from idle (VCC on, RST, CLK and PGM low, I/O

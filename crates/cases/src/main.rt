@@ -4,6 +4,7 @@ mod effects;
 mod lines;
 mod names;
 mod numbers;
+mod reasons;
 mod steps;
 mod table;
 
@@ -15,5 +16,6 @@ fn main() {
     let t = numbers::rows(t);
     let t = buffers::rows(t);
     let t = effects::rows(t);
+    let t = reasons::rows(t);
     t.total().end(b"cases");
 }

@@ -2,7 +2,7 @@
 -- `proofs.AgainstCases` computes them from the definitions.
 --
 -- A half by its levels, its address and its flags: SV 1, P1 2, R1 4, programming 8, latch 16, E1 32, match 64.
-use Prim.Native.Nat.{ℕ}
+use Prim.Native.Nat.{ℕ, _+_, _*_}
 use mathlib.Core.Path.{_≡_}
 use mathlib.Core.Bool.{true, false}
 use mathlib.Core.List.{List, [], _∷_, _++_}
@@ -11,7 +11,8 @@ use Rattle.rules.specs.Maker.{reset, walk, walkRefusal}
 use Rattle.rules.specs.CaseForms.{zero, no-answer, L1, L2, sample, cardFile, session}
 use Rattle.volatile.specs.Cases.{Gives, half}
 use Rattle.looks.specs.Flags.{flagsOf}
-use Rattle.exports.specs.Rendered.{ofWalk, ofStep, flagBytes, isHigh}
+use Rattle.looks.specs.Reasons.{reasonAnswer}
+use Rattle.exports.specs.Rendered.{ofWalk, ofStep, flagBytes, reasonBytes, version, isHigh}
 use Rattle.exports.specs.Told.{ActTold, CardTold, SessionTold}
 
 -- A walk and a step in the exported numbers, each part in its field. What the numbers are is pinned in `card`.
@@ -31,6 +32,33 @@ Flags-told =
     (half 17 1232 32, record { sv = 0; p1 = 0; r1 = 0; e1 = 1; refusal = 0 }) ∷
     (half 17 0 135, record { sv = 0; p1 = 0; r1 = 0; e1 = 0; refusal = 9 }) ∷
     [])
+
+-- 02, W1: each reason by its number, and 255 beside 10, 14 and 9.
+abbrev pub Reasons-told : Type 0
+Reasons-told =
+    Gives (λ v. reasonBytes (reasonAnswer sample 7 v))
+    ((half 5 178 11, record { reason = 0; refusal = 0 }) ∷
+    (half 17 178 3, record { reason = 1; refusal = 0 }) ∷
+    (half 5 1424 8, record { reason = 2; refusal = 0 }) ∷
+    (half 7 178 8, record { reason = 3; refusal = 0 }) ∷
+    (half 5 0 8, record { reason = 4; refusal = 0 }) ∷
+    (half 5 178 8, record { reason = 5; refusal = 0 }) ∷
+    (half 5 178 9, record { reason = 6; refusal = 0 }) ∷
+    (half 21 1240 25, record { reason = 7; refusal = 0 }) ∷
+    (half 5 1400 9, record { reason = 10; refusal = 0 }) ∷
+    (half 5 178 128, record { reason = 255; refusal = 9 }) ∷
+    []) ×
+    Gives (λ fuses. reasonBytes (reasonAnswer sample fuses (half 37 1376 9)))
+    ((7, record { reason = 0; refusal = 0 }) ∷
+    (6, record { reason = 8; refusal = 0 }) ∷
+    (8, record { reason = 255; refusal = 14 }) ∷
+    []) ×
+    (reasonBytes (reasonAnswer sample 3 (half 5 1392 9)) ≡ record { reason = 9; refusal = 0 }) ×
+    (reasonBytes (reasonAnswer (take 173 sample) 7 (half 5 178 11)) ≡ record { reason = 255; refusal = 10 })
+
+-- 0.1.1, put together as the header's ZHAV_VERSION is.
+abbrev pub Version-told : Type 0
+Version-told = version ≡ 0 * 10000 + (1 * 100 + 1)
 
 -- An act: "Nothing is then written, count 0; else bytes after the count stay." FUS as a byte: 0 is low, anything else high.
 abbrev pub Acts-told : Type 0

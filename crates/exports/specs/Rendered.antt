@@ -7,6 +7,8 @@ use Rattle.card.specs.declared.Told.{Told}
 use Rattle.walk.specs.declared.Walked.{Walked}
 use Rattle.looks.specs.declared.FlagsAnswer.{FlagsAnswer}
 use Rattle.looks.specs.Flags.{flagsRefused, flagsHeld}
+use Rattle.looks.specs.declared.ReasonAnswer.{ReasonAnswer}
+use Rattle.looks.specs.Reasons.{reasonTold, reasonRefused}
 use Rattle.maker.specs.declared.Made.{Made}
 use Rattle.maker.specs.Act.{refusalIn as actRefused, countOf}
 use Rattle.rules.specs.File.{stepsAt}
@@ -16,6 +18,7 @@ use Rattle.file.specs.declared.Session.the-variants as session
 use Rattle.file.specs.Opening.{refusalInCard, cardFuses, refusalInSession, sessionFuses, sessionSteps}
 use Rattle.exports.specs.declared.steps.ZhavStepped.{ZhavStepped}
 use Rattle.exports.specs.declared.steps.ZhavFlags.{ZhavFlags}
+use Rattle.exports.specs.declared.reasons.ZhavWhy.{ZhavWhy}
 use Rattle.exports.specs.declared.acts.ZhavMade.{ZhavMade}
 use Rattle.exports.specs.declared.openers.ZhavCard.{ZhavCard}
 use Rattle.exports.specs.declared.openers.ZhavSession.{ZhavSession}
@@ -33,6 +36,11 @@ unfolding flagsHeld flagsRefused
 flagBytes a =
     let held = flagsHeld a in
     record { sv = one (held .0); p1 = one (held .1 .0); r1 = one (held .1 .1 .0); e1 = one (held .1 .1 .1); refusal = flagsRefused a }
+
+-- The reason by its number, 255 where refused.
+unfoldable pub reasonBytes : ReasonAnswer → ZhavWhy
+unfolding reasonTold reasonRefused
+reasonBytes a = record { reason = reasonTold a; refusal = reasonRefused a }
 
 -- A level as a byte: 0 low, anything else high.
 abbrev pub isHigh : ℕ → Bool
@@ -56,3 +64,7 @@ stepsFrom (session.Refused k) = 0
 unfoldable pub sessionOf : Session → ZhavSession
 unfolding stepsFrom sessionSteps sessionFuses refusalInSession
 sessionOf s = record { first = stepsFrom s; steps = sessionSteps s; fuses = sessionFuses s; refusal = refusalInSession s }
+
+-- The library's version, 0.1.1: major, minor and patch as one number of two digits each.
+abbrev pub version : ℕ
+version = 101

@@ -2,4 +2,6 @@
 // calls.
 mod acts;
 mod openers;
+mod reasons;
 mod steps;
+mod version;

@@ -87,7 +87,8 @@ fn issuing_and_key(out: Output) -> Output {
 fn flags_and_faults(out: Output) -> Output {
     let out = lesson(out, b"r1_p1.txt", b"r1_p1.session");
     let out = lesson(out, b"refused.txt", b"refused.session");
-    lesson(out, b"cut.txt", b"cut.session")
+    let out = lesson(out, b"cut.txt", b"cut.session");
+    lesson(out, b"nothing_written.txt", b"nothing_written.session")
 }
 
 // A text that is wrong has no session.

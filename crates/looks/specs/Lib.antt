@@ -1,2 +1,3 @@
 pub mod Flags
+pub mod Reasons
 pub mod Cases

@@ -3,7 +3,7 @@ use rules::Operation;
 use rules::Right;
 use rules::Zone;
 ghost use mathlib.Core.Path.{_≡_};
-ghost use Rattle.rules.specs.Zones.{row, isFuse};
+ghost use Rattle.rules.specs.Zones.{row, isFuse, isGap};
 ghost use Rattle.rules.specs.Programming.{asks, effect};
 ghost use Prim.Native.Nat.{_-_, _<_};
 ghost use lib.ListN.{getD};
@@ -47,6 +47,8 @@ const FUSE_MF: usize = 11;
 const FUSE_ECEN: usize = 12;
 
 const FUSE_ISS: usize = 13;
+
+const GAP: usize = 14;
 
 // Read, write, erase: two levels by ten zones, level 1 and level 2, each FZ, IZ, SC, SCAC, CPZ, AZ, EZ, EC, MTZ, MFZ.
 const RIGHTS: [[[u8; 3]; 10]; 2] = [
@@ -105,6 +107,13 @@ pub fn is_fuse(z: Zone) -> bool
 {
     let row = row_of(z);
     (FUSE_MF <= row) & (row <= FUSE_ISS)
+}
+
+// Where nothing is stored.
+pub fn is_gap(z: Zone) -> bool
+    ensures { λ r. ⌜ r ≡ isGap z ⌝ }
+{
+    row_of(z) == GAP
 }
 
 // What the operation does at its place; in a gap nothing.

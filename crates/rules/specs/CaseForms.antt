@@ -1,6 +1,6 @@
 -- What a case of the table is made of, and when it holds. The cases are in `specs.Cases`.
 use Prim.Native.Nat.{ℕ, _+_, _-_, _/_, _%_}
-use mathlib.Core.Bool.{Bool, true, false, _&&_, Bool·beq}
+use mathlib.Core.Bool.{Bool, true, false, cond, _&&_, Bool·beq}
 use mathlib.Core.List.{List, [], _∷_, _++_}
 use lib.Count.{onesIn}
 use lib.Dec.{eqb}
@@ -9,6 +9,9 @@ use Rattle.memory.specs.Image.{digit, bytes}
 use Rattle.rules.specs.Halves.{Volatile, Card, fresh}
 use Rattle.rules.specs.declared.Answer.{Answer}
 use Rattle.rules.specs.declared.Answer.the-variants.{Pin, Refused}
+use Rattle.rules.specs.declared.Reason.{Reason}
+use Rattle.rules.specs.Refusals.{stateRefusal}
+use Rattle.rules.specs.Reason.{number, reason}
 use Rattle.rules.specs.Card.{checkedStep, checkedAnswer, checkedRun, refusalIn, flagsRefusal, triesLeft}
 use Rattle.rules.specs.File.{memorySection, fuseSection, stepSection, cardRefusal, sessionRefusal}
 use Rattle.rules.specs.Maker.{idle, walk, showBits, program, blow, actRefusal}
@@ -137,6 +140,8 @@ pub data Case : Type 0 where
   Unmade : ℕ → List ℕ → ℕ → Case
   -- Running this session prints "steps done and given, refusal (0 if none), the answers without spaces, ones left in bits 96 to 103".
   Prints : List ℕ → ℕ → ℕ → ℕ → List ℕ → ℕ → Case
+  -- A card that 10, 14 and 9 let pass has this reason.
+  Tells : Card → Reason → Case
   -- A claim over many cards at once, computed.
   Claims : Bool → Case
 
@@ -187,7 +192,7 @@ pins (Refused k) = []
 
 -- When a case holds. The runs and steps are checked ones: a start that 10, 14 or 9 refuses holds only in a case that says so.
 unfoldable pub holds : Case → Bool
-unfolding the-card sameCard endsIn shows sameAnswer pins refusalIn flagsRefusal actRefusal triesLeft onesIn memorySection fuseSection stepSection cardRefusal sessionRefusal
+unfolding the-card sameCard endsIn shows sameAnswer pins refusalIn flagsRefusal actRefusal triesLeft onesIn memorySection fuseSection stepSection cardRefusal sessionRefusal reason
 holds (Runs c ns d answers) =
     let r = checkedRun c ns (length ns) in
     eqb (r .refused) 0 && (sameCard (r .card) d && endsIn (r .answers) answers)
@@ -214,6 +219,7 @@ holds (Prints file done given refused answers left) =
     (eqb (length (r .answers)) done &&
     (eqb (length (stepSection file)) given &&
     (eqb (r .refused) refused && (sameBytes (r .answers) answers && eqb (triesLeft (r .card .memory)) left))))
+holds (Tells c r) = eqb (stateRefusal c) 0 && eqb (number (reason (c .fuses) (c .volatile))) (number r)
 holds (Claims claim) = claim
 
 unfoldable pub every : List Case → Bool
@@ -283,6 +289,11 @@ unfoldable pub unready : ℕ → ℕ → List ℕ → ℕ → ℕ → ℕ → Ca
 unfolding cardAt
 unready levels fuses m holding n k =
     Step (cardAt levels fuses m 0 holding) n (cardAt levels fuses m 0 holding) (Refused k)
+
+-- Programming of this kind is under way: a latched 1 erases, 0 writes.
+unfoldable pub tells : Bool → ℕ → ℕ → ℕ → ℕ → Reason → Case
+unfolding cardAt sample
+tells erase levels fuses a holding r = Tells (cardAt levels fuses sample a (holding + Programming + cond erase Latch 0)) r
 
 -- A file's first bytes, so many: a count, the sample image, a count, a fuse byte, a count, and zeros.
 unfoldable pub laidOut : ℕ → ℕ → ℕ → ℕ → ℕ → List ℕ

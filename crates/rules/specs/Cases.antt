@@ -17,6 +17,7 @@ use Rattle.rules.specs.CasesRights.{zoneCases, eraseCases, imageCases, p
 use Rattle.rules.specs.CasesMatch.{codeCases, keyCases}
 use Rattle.rules.specs.CasesRefusals.{stepRefusals, orderCases, stateCases, answerCases, runCases, bufferCases}
 use Rattle.rules.specs.CasesFiles.{fileCases, triesCases, actCases, makerCases}
+use Rattle.rules.specs.CasesReasons.{numberCases, idleReasons, placeReasons, neverReasons, thingReasons, rightReasons, lackingCases}
 
 -- "Case S: memory byte 0 is 127, all others 255, fuses 7, steps 16 48 49 53 49 51 49 55".
 unfoldable pub caseS : Case
@@ -72,7 +73,7 @@ edges =
 
 -- The long runs stand last: a wrong version is mostly refused before them.
 unfoldable pub table : List Case
-unfolding joined caseS edges lineCases startCases cutCases arrivalCases pinCases zoneCases eraseCases imageCases programCases operationCases blockCases fuseCases codeCases keyCases stepRefusals orderCases stateCases answerCases runCases bufferCases fileCases triesCases actCases makerCases
+unfolding joined caseS edges lineCases startCases cutCases arrivalCases pinCases zoneCases eraseCases imageCases programCases operationCases blockCases fuseCases codeCases keyCases stepRefusals orderCases stateCases answerCases runCases bufferCases fileCases triesCases actCases makerCases numberCases idleReasons placeReasons neverReasons thingReasons rightReasons lackingCases
 table =
     joined
     ((caseS ∷ []) ∷
@@ -97,6 +98,13 @@ table =
     triesCases ∷
     actCases ∷
     makerCases ∷
+    numberCases ∷
+    idleReasons ∷
+    placeReasons ∷
+    neverReasons ∷
+    thingReasons ∷
+    rightReasons ∷
+    lackingCases ∷
     codeCases ∷
     keyCases ∷
     arrivalCases ∷

@@ -11,6 +11,8 @@ pub mod Maker
 pub mod File
 pub mod Computing
 pub mod Demands
+pub mod Reason
+pub mod ReasonPromises
 pub mod CaseForms
 pub mod CaseRanges
 pub mod ClaimForms
@@ -23,4 +25,5 @@ pub mod CasesRights
 pub mod CasesMatch
 pub mod CasesRefusals
 pub mod CasesFiles
+pub mod CasesReasons
 pub mod Cases

@@ -1,6 +1,6 @@
 -- 01, "Rights (004, tables 1 and 2)": what an access asks for, and what is there.
 use Prim.Native.Nat.{ℕ, _+_}
-use mathlib.Core.Bool.{Bool, true, false, not, _&&_, _||_}
+use mathlib.Core.Bool.{Bool, true, false, cond, not, _&&_, _||_}
 use mathlib.Core.List.{List, [], _∷_, _++_}
 use lib.ListN.{getD}
 use Rattle.memory.specs.Image.{digit}
@@ -79,6 +79,16 @@ granted asked h =
     (met (digit 4 asked) (h .mf) &&
     (met (digit 5 asked) (h .iss) &&
     (met (digit 6 asked) (h .fus) && met (digit 7 asked) (h .sv || h .r1)))))))
+
+-- A thing's digit where the thing is not there.
+abbrev pub unless : Bool → ℕ → ℕ
+unless there thing = cond there 0 thing
+
+-- What a right may ask for and is not there, as a mask; `no` never is.
+unfoldable pub lacking : Held → ℕ
+lacking h =
+    no + unless (h .sv) SV + unless (h .p1) P1 + unless (h .e1) E1 + unless (h .mf) MF-unblown + unless (h .iss) ISS-unblown +
+    unless (h .fus) FUS-high + unless (h .sv || h .r1) SV-or-R1
 
 -- A row of the table: what reading, writing and erasing ask for.
 abbrev pub right : ℕ → ℕ → ℕ → Right

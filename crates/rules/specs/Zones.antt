@@ -54,3 +54,7 @@ row Gap = 14
 unfoldable pub isFuse : Zone → Bool
 unfolding between
 isFuse z = between 11 13 (row z)
+
+-- 02, W1: "address stores nothing".
+unfoldable pub isGap : Zone → Bool
+isGap z = eqb (row z) (row Gap)

@@ -62,6 +62,21 @@ pub enum Operation {
     BlowISS,
 }
 
+// 02, W1: why CLK's fall would change nothing by right, in 02's order; or that the right is there.
+pub enum Reason {
+    NoProgramming,
+    NothingStored,
+    WrongRST,
+    NeverAllowed,
+    SVMissing,
+    P1Missing,
+    E1Missing,
+    MFBlown,
+    ISSBlown,
+    FUSLow,
+    RightIsThere,
+}
+
 // What a step gets: the pin's answer, or a refusal.
 pub enum Answer {
     Pin(u8),

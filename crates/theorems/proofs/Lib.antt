@@ -18,4 +18,10 @@ pub mod AlikeCards
 pub mod Hidden
 pub mod Examples
 pub mod StepExamples
+pub mod Missing
+pub mod Reasons
+pub mod Carried
+pub mod Granting
+pub mod ReasonExamples
+pub mod ReasonPromises
 pub mod Demands

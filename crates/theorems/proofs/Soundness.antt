@@ -1,6 +1,6 @@
 -- 01: "A state that 9 lets pass never leads to one that 9 refuses." By cases on the edge.
 use Prim.Native.Nat.{ℕ, zero, suc, _≤_, _<_, _/_}
-use mathlib.Core.Path.{_≡_, refl, ap, _∙_}
+use mathlib.Core.Path.{_≡_, refl, sym, ap, _∙_}
 use mathlib.Core.Bool.{Bool, true, false, cond, not, _&&_, _||_}
 use mathlib.Core.List.{List}
 use native.Mathlib.Omega.{arith}
@@ -77,6 +77,18 @@ sound v e =
 pub under-way : {v : Volatile} → Sound v → v .programming ≡ true → high CLK (v .lines) ≡ true
 unfolding unwired
 under-way {v} s q = let wired = s .wired in search chain
+
+-- And VCC is.
+pub in-power : {v : Volatile} → Sound v → v .programming ≡ true → high VCC (v .lines) ≡ true
+unfolding anySet
+in-power {v} s p = go (high VCC (v .lines)) refl
+  where
+    go : (b : Bool) → high VCC (v .lines) ≡ b → b ≡ true
+    go true h = refl
+    go false h =
+        let none : anySet v ≡ false = rw h at (s .unpowered) in
+        let idle : v .programming ≡ false = search neither-right depth 9 in
+        sym idle ∙ p
 
 -- 9 lets pass what is sound.
 pub unmade : (v : Volatile) → Sound v → madeUp v ≡ false

@@ -47,6 +47,11 @@ unfolding every
 of-every test e true = search and-left
 of-every test e false = search and-right
 
+-- The same of three of them.
+pub of-every₃ :
+    (test : Bool → Bool → Bool → Bool) → every (λ a. every (λ b. every (test a b))) ≡ true → (a b c : Bool) → test a b c ≡ true
+of-every₃ test e a b c = of-every _ (of-every _ (of-every _ e a) b) c
+
 -- `below` of a test that stands for an implication.
 pub below-then :
     (k : ℕ) (p q : ℕ → Bool) → all k (λ n. not (p n) || q n) ≡ true → (n : ℕ) → n < k → p n ≡ true → q n ≡ true

@@ -2,9 +2,9 @@
 use mathlib.Core.Path.{refl}
 use Rattle.rules.specs.Computing.{the-card}
 use Rattle.rules.specs.CaseForms.{state, cardAt, ones, sample}
-use Rattle.volatile.specs.Packed.{unpacked, packed, madeUpWord, plainlySound, lackingOf}
+use Rattle.volatile.specs.Packed.{unpacked, packed, madeUpWord, plainlySound}
 use Rattle.volatile.specs.Packed.{programmedHalf, comparedHere, goneOn, arrivalFlags, openingFlags}
-use Rattle.volatile.specs.Cases.{Flags-apart, Made-up, Plainly-sound, Lacking, Programmed, Moved, Operates}
+use Rattle.volatile.specs.Cases.{Flags-apart, Made-up, Plainly-sound, Programmed, Moved, Operates}
 
 pub flags-apart : Flags-apart
 unfolding the-card cardAt unpacked packed
@@ -17,10 +17,6 @@ made-up = (refl, refl, refl, refl, refl)
 pub plainly-sound : Plainly-sound
 unfolding plainlySound
 plainly-sound = (refl, refl, refl, refl, refl, refl, refl)
-
-pub lacking : Lacking
-unfolding the-card state lackingOf
-lacking = (refl, refl, refl)
 
 pub programmed : Programmed
 unfolding state programmedHalf openingFlags

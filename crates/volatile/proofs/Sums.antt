@@ -10,7 +10,7 @@ use borrow.Author.Tests.{ltb-false, eq-eqb, ne-eqb}
 use Rattle.memory.specs.Image.{digit}
 use Rattle.memory.proofs.Below.{all}
 use Rattle.rules.specs.Lines.{VCC, RST, PGM, high, place}
-use Rattle.rules.specs.Rights.{Held, held, level1, met, granted}
+use Rattle.rules.specs.Rights.{Held, held, level1, met, granted, lacking}
 use Rattle.rules.specs.Zones.{between, zone, isFuse}
 use Rattle.rules.specs.Refusals.{anySet, madeUp}
 use Rattle.rules.specs.declared.Operation.the-variants.{Nothing}
@@ -18,21 +18,22 @@ use Rattle.rules.specs.Halves.{EC-EN, unblown}
 use Rattle.rules.specs.Halves as Halves
 use Rattle.rules.specs.Programming.{asks, mayProgram, effect, operation, mayProgramNow, operationNow}
 use Rattle.volatile.specs.declared.Volatile.{Volatile}
-use Rattle.volatile.specs.Packed.{one, lackingOf, unpacked, madeUpWord}
+use Rattle.volatile.specs.Packed.{one, unpacked, madeUpWord}
 use Rattle.volatile.proofs.Packing.{digit-one, halves, last-digit, digit-low, agree-below, masked-test}
 
 as-one : (b : Bool) (m : ℕ) → cond b 0 m ≡ m * one (not b)
 as-one true m = omega arith
 as-one false m = omega arith
 
--- The sum of what is missing, as the code makes it.
-pub missing :
-    (h : Held) →
-    1 + cond (h .sv) 0 2 + cond (h .p1) 0 4 + cond (h .e1) 0 8 + (cond (h .mf) 0 16 + cond (h .iss) 0 32) + cond (h .fus) 0 64 +
-    cond (h .sv || h .r1) 0 128 ≡
-    lackingOf h
-unfolding lackingOf
-missing h =
+-- The mask of what is missing, digit by digit.
+unfoldable nested : Held → ℕ
+nested h =
+    1 + 2 * (one (not (h .sv)) + 2 * (one (not (h .p1)) + 2 * (one (not (h .e1)) + 2 * (one (not (h .mf)) + 2 * (one (not (h .iss)) +
+    2 * (one (not (h .fus)) + 2 * one (not (h .sv || h .r1))))))))
+
+lacking-nested : (h : Held) → lacking h ≡ nested h
+unfolding lacking nested
+lacking-nested h =
     rw (
       as-one (h .sv) 2,
       as-one (h .p1) 4,
@@ -43,6 +44,15 @@ missing h =
       as-one (h .sv || h .r1) 128,
     )
     (omega arith)
+
+-- The sum of what is missing, as the code makes it.
+pub summed :
+    (h : Held) →
+    1 + cond (h .sv) 0 2 + cond (h .p1) 0 4 + cond (h .e1) 0 8 + (cond (h .mf) 0 16 + cond (h .iss) 0 32) + cond (h .fus) 0 64 +
+    cond (h .sv || h .r1) 0 128 ≡
+    lacking h
+unfolding lacking
+summed h = omega arith
 
 -- A word of flags is not zero exactly where one of them is set.
 any-flag :
@@ -107,16 +117,17 @@ never-met true rest = refl
 never-met false rest = refl
 
 -- A right is granted exactly where its mask holds nothing that is missing.
-pub granted-mask : (asked : ℕ) → asked < 256 → (h : Held) → eqb (bitAnd asked (lackingOf h)) 0 ≡ granted asked h
-unfolding lackingOf granted digit
+pub granted-mask : (asked : ℕ) → asked < 256 → (h : Held) → eqb (bitAnd asked (lacking h)) 0 ≡ granted asked h
+unfolding nested granted digit
 granted-mask asked small h =
-    masks-apart 8 asked (lackingOf h) small ∙
+    ap (λ (x : ℕ). eqb (bitAnd asked x) 0) (lacking-nested h) ∙
+    (masks-apart 8 asked (nested h) small ∙
     (peeled 7 _ _ false _
     (peeled 6 _ _ (h .sv) _
     (peeled 5 _ _ (h .p1) _
     (peeled 4 _ _ (h .e1) _
     (peeled 3 _ _ (h .mf) _ (peeled 2 _ _ (h .iss) _ (peeled 1 _ _ (h .fus) _ (peeled-last _ (h .sv || h .r1)))))))) ∙
-    never-met (digit 0 asked) _)
+    never-met (digit 0 asked) _))
 
 -- The tests of the state check after the first, as the code puts them together.
 abbrev later-tests : Volatile → Bool

@@ -8,11 +8,10 @@ use mathlib.Core.Bool.{true, false}
 use mathlib.Core.List.{List, [], _∷_, map}
 use lib.ListN.{set}
 use Rattle.rules.specs.declared.Operation.the-variants.{Nothing, WriteBit, EraseWord, EraseZone, BlowISS}
-use Rattle.rules.specs.Rights.{held}
 use Rattle.rules.specs.Programming.{mayProgramNow, operationNow}
 use Rattle.rules.specs.CaseForms.{none, SV, P1, R1, E1, Match, Latch, Programming, state, cardAt, ones, sample}
 use Rattle.volatile.specs.declared.Volatile.{Volatile}
-use Rattle.volatile.specs.Packed.{unpacked, packed, given, cardOf, handedBack, withHalf, madeUpWord, wired, plainlySound, lackingOf}
+use Rattle.volatile.specs.Packed.{unpacked, packed, given, cardOf, handedBack, withHalf, madeUpWord, wired, plainlySound}
 use Rattle.volatile.specs.Packed.{programmedHalf, comparedHere, goneOn, arrivalFlags, openingFlags}
 
 -- Of what stands left in each row f makes what stands right.
@@ -72,20 +71,6 @@ Plainly-sound =
     Gives (λ levels. plainlySound (half levels 0 24)) ((62, false) ∷ (63, true) ∷ (69, false) ∷ []) ×
     Gives (λ a. plainlySound (half 17 a 7)) ((1519, true) ∷ (1520, false) ∷ []) ×
     Gives (λ flags. plainlySound (half 21 1240 flags)) ((31, true) ∷ (32, false) ∷ (64, false) ∷ [])
-
--- What is missing of what a right may ask for: SV 2, P1 4, E1 8, MF 16, ISS 32, FUS 64, SV or R1 128; the 1 of "no" always is.
-abbrev pub Lacking : Type 0
-Lacking =
-    Gives (λ holding. lackingOf (held 7 (state 49 0 holding)))
-    ((SV + P1 + R1 + E1, 1) ∷
-    (P1 + R1 + E1, 3) ∷
-    (SV + R1 + E1, 5) ∷
-    (SV + P1 + E1, 1) ∷
-    (SV + P1 + R1, 9) ∷
-    (P1 + E1, 131) ∷
-    []) ×
-    Gives (λ fuses. lackingOf (held fuses (state 49 0 (SV + P1 + E1)))) ((6, 17) ∷ (5, 1) ∷ (3, 33) ∷ []) ×
-    Gives (λ levels. lackingOf (held 7 (state levels 0 (SV + P1 + E1)))) ((17, 65) ∷ [])
 
 -- 01, "Opening" and "Key": SV or E1 come of a write that turned a 1 into 0 while match held; programming ends, all else stays.
 abbrev pub Programmed : Type 0

@@ -7,7 +7,6 @@ use lib.Bits.{bitAnd}
 use Rattle.memory.specs.Image.{digit, bit}
 use Rattle.rules.specs.Halves.{Card, EC-EN, unblown}
 use Rattle.rules.specs.Halves as Halves
-use Rattle.rules.specs.Rights.{Held}
 use Rattle.rules.specs.Zones.{between}
 use Rattle.rules.specs.Match.{compared}
 use Rattle.rules.specs.Programming.{operationNow}
@@ -87,12 +86,6 @@ wired lines flags = eqb (bitAnd lines 1) 1 && eqb (0xa2a7 / 2 ^ (lines / 4 % 4 +
 unfoldable pub plainlySound : Volatile → Bool
 unfolding wired
 plainlySound v = not (ltb 63 (v .lines)) && (not (ltb 31 (v .flags)) && (not (ltb 1519 (v .address)) && wired (v .lines) (v .flags)))
-
--- The things that a right may ask for and that are not there, as a mask.
-unfoldable pub lackingOf : Held → ℕ
-lackingOf h =
-    1 + 2 * (one (not (h .sv)) + 2 * (one (not (h .p1)) + 2 * (one (not (h .e1)) + 2 * (one (not (h .mf)) + 2 * (one (not (h .iss)) +
-    2 * (one (not (h .fus)) + 2 * one (not (h .sv || h .r1))))))))
 
 -- The volatile half after an operation that turned a 1 into 0, or did not.
 unfoldable pub programmedHalf : Bool → Bool → Bool → ℕ → Halves.Volatile → Halves.Volatile

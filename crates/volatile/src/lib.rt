@@ -1,6 +1,7 @@
 // The volatile half, and what each edge makes of it: it goes in by value and comes back.
 use memory::is_set;
 use rules::Operation;
+use rules::Zone;
 ghost use mathlib.Core.Path.{_≡_};
 ghost use mathlib.Core.Bool.{cond};
 ghost use Rattle.memory.specs.Image.{bit};
@@ -8,11 +9,12 @@ ghost use mathlib.Core.List.{[]};
 ghost use Prim.Native.Nat.{_≤_};
 ghost use Rattle.rules.specs.Halves.{fresh, off};
 ghost use Rattle.rules.specs.Zones.{zone};
-ghost use Rattle.rules.specs.Rights.{held, level1, mayRead};
+ghost use Rattle.rules.specs.Rights.{held, level1, lacking, mayRead};
 ghost use Rattle.rules.specs.Programming.{mayProgramNow, operationNow};
+ghost use Rattle.rules.specs.Reason.{missing};
 ghost use Rattle.rules.specs.Match.{arrived};
 ghost use Rattle.rules.specs.Steps.{follows, clkRises, unlatched, driven, pinValue};
-ghost use Rattle.volatile.specs.Packed.{packed, unpacked, madeUpWord, plainlySound, lackingOf, programmedHalf, goneOn, openingFlags, arrivalFlags, comparedHere};
+ghost use Rattle.volatile.specs.Packed.{packed, unpacked, madeUpWord, plainlySound, programmedHalf, goneOn, openingFlags, arrivalFlags, comparedHere};
 
 // Places of the lines in a step.
 pub const VCC: u32 = 0;
@@ -261,7 +263,7 @@ impl Volatile {
 
     // The things that a right may ask for and that are not there.
     pub fn lacking(self, fuses: u8) -> u8
-        ensures { λ r. ⌜ r ≡ lackingOf (held fuses (unpacked self)) ⌝ }
+        ensures { λ r. ⌜ r ≡ lacking (held fuses (unpacked self)) ⌝ }
     {
         let sv = is_set(self.flags, SV);
         let flags = 1
@@ -365,6 +367,17 @@ impl Volatile {
         let ec_en = is_set(fuses as u32, EC_EN);
         let asked = rights::asks_of(self.level1(fuses), ec_en, latch, self.address, z);
         asked & self.lacking(fuses) == 0
+    }
+
+    // What the operation asks for in its zone and does not have. `may_program` has the same mask to itself: a function with two callers
+    // is called, and the step would pay for it.
+    pub fn missing(self, fuses: u8, z: Zone) -> u8
+        ensures { λ r. ⌜ r ≡ missing fuses (unpacked self) z ⌝ }
+    {
+        let latch = is_set(self.flags, LATCH);
+        let ec_en = is_set(fuses as u32, EC_EN);
+        let asked = rights::asks_of(self.level1(fuses), ec_en, latch, self.address, z);
+        asked & self.lacking(fuses)
     }
 
     // The operation that takes effect.

@@ -2,7 +2,7 @@ use Rattle.rules.specs.Halves.{fusePlace, unblown}
 use Rattle.rules.specs.Lines.{high, place}
 use Rattle.rules.specs.Rights.{held}
 use Rattle.volatile.specs.Packed.{unpacked}
-use Rattle.volatile.proofs.Sums.{missing}
+use Rattle.volatile.proofs.Sums.{summed}
 use borrow.Author.Needs.{needs}
 use Rattle.volatile.proofs.Volatile.lacking.Statement.{statement}
 use Rattle.volatile.proofs.Volatile.lacking.Tie as tie
@@ -34,7 +34,7 @@ returns c =
       r1 .is-set6 .ensures,
       fus .before .is-set7 .ensures,
     )
-    (missing (held (args .fuses) (unpacked (args .self))))
+    (summed (held (args .fuses) (unpacked (args .self))))
 
 pub lacking-spec : {M : Type 1} → statement M
 lacking-spec =
