@@ -9,6 +9,7 @@ use crate::zones;
 use model::fuses::{ALL, EC_EN, ISS};
 use model::mutate;
 use std::collections::HashSet;
+use std::ops::RangeInclusive;
 
 #[derive(Clone, Copy, PartialEq, Eq, Hash)]
 pub enum Goal {
@@ -19,6 +20,9 @@ pub enum Goal {
 
 /// The wrong behaviours of calls that no session makes.
 const OF_OTHER_CALLS: [u32; 12] = [31, 32, 34, 37, 42, 44, 56, 57, 61, 67, 68, 69];
+
+/// The wrong behaviours of the reason, which no session asks for either.
+const OF_THE_REASON: RangeInclusive<u32> = 77..=109;
 
 /// The wrong behaviours that the pin never tells within 4,096 steps.
 const UNSEEN: [u32; 13] = [
@@ -47,7 +51,10 @@ pub fn all() -> Vec<Goal> {
     let events = kinds.iter().flat_map(|kind| kind.events(SESSIONS));
     let events = events.map(|(kind, number)| Goal::Event(kind, number));
     let wrong = (1..).take(mutate::WRONG.len());
-    let shown = wrong.filter(|number| !OF_OTHER_CALLS.contains(number) && !UNSEEN.contains(number));
+    let unshown = |number: &u32| {
+        OF_OTHER_CALLS.contains(number) || OF_THE_REASON.contains(number) || UNSEEN.contains(number)
+    };
+    let shown = wrong.filter(|number| !unshown(number));
     events.chain(shown.map(Goal::Wrong)).collect()
 }
 

@@ -90,6 +90,8 @@ kinds! {
     Refused7 Steps "refused by 7" [RISES_WITH]
     RefusedBefore Calls "steps refused by" [BEFORE]
     MadeUp Calls "9 alone by" [CLAUSE]
+    Reason Calls "reasons" [REASON PGM]
+    ReasonRefused Calls "reasons refused by" [CHECKS]
     Ran Calls "runs" [RAN]
     Act Calls "acts" [ACT MADE]
     CardFile Calls "card files" [OPENED]

@@ -455,3 +455,18 @@ pub fn made_up(reached: &mut Reached, v: Words) {
         note_each(reached, Kind::MadeUp, &clauses);
     }
 }
+
+/// The reason of a state, or the number by which it is refused.
+pub fn reason(reached: &mut Reached, v: Words, told: Result<u8, u8>) {
+    match told {
+        Ok(number) => {
+            let pgm = v.lines & u32::from(PGM) != 0;
+            reached.note(Kind::Reason, [number.into(), pgm.into()]);
+        }
+        Err(number) => {
+            let order = [10, 14, 9];
+            let index = order.iter().position(|&refusal| refusal == number);
+            reached.note(Kind::ReasonRefused, [index.expect("one of the three")]);
+        }
+    }
+}

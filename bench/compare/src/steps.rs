@@ -6,7 +6,7 @@ use crate::reached::Reached;
 use crate::seen::{self, Side};
 use crate::waveform::Case;
 use crate::words::{of_model, to_model, Words};
-use zhavdurgon::{Ran, Stepped};
+use zhavdurgon::{Ran, Reason, Stepped};
 
 /// A byte that no answer is.
 const UNTOUCHED: u8 = 165;
@@ -17,9 +17,9 @@ pub struct Differs {
     pub text: String,
 }
 
-/// What is refused whatever the step, where the model's fields can't hold the
+/// What is refused whatever is asked, where the model's fields can't hold the
 /// state: it is made up.
-fn before_steps(length: usize, fuses: u8) -> u8 {
+fn before_all(length: usize, fuses: u8) -> u8 {
     match (length, fuses) {
         (174, 0..=7) => 9,
         (174, _) => 14,
@@ -32,7 +32,7 @@ fn model_step(memory: &mut [u8], fuses: u8, volatile: Words, step: u8) -> Steppe
         return Stepped {
             volatile,
             fuses,
-            answer: Err(before_steps(memory.len(), fuses)),
+            answer: Err(before_all(memory.len(), fuses)),
         };
     };
     let result = model::step(memory, fuses, state, step);
@@ -55,7 +55,7 @@ fn model_run(
             volatile,
             fuses,
             done: 0,
-            refusal: before_steps(memory.len(), fuses),
+            refusal: before_all(memory.len(), fuses),
         };
     };
     let result = model::run(memory, fuses, state, steps, answers);
@@ -74,6 +74,30 @@ fn same_flags(volatile: Words) -> bool {
         None => Err(9),
     };
     card == model
+}
+
+/// A difference in the reason of a state, number by number, if there is one; else
+/// the reason is counted.
+fn reason(
+    memory: &[u8],
+    fuses: u8,
+    volatile: Words,
+    reached: Option<&mut Reached>,
+) -> Option<String> {
+    let card = zhavdurgon::reason(memory, fuses, volatile).map(Reason::number);
+    let model = match to_model(volatile) {
+        Some(state) => model::reason(memory, fuses, state),
+        None => Err(before_all(memory.len(), fuses)),
+    };
+    if card != model {
+        return Some(format!(
+            "the reason of fuses {fuses}, {volatile:?}\ncard:  {card:?}\nmodel: {model:?}"
+        ));
+    }
+    if let Some(reached) = reached {
+        seen::reason(reached, volatile, card);
+    }
+    None
 }
 
 /// The model has no tries left where the image isn't 174 bytes; the card has
@@ -118,13 +142,17 @@ fn note(reached: &mut Reached, before: (&[u8], u8, Words), step: u8, after: (&[u
 }
 
 /// Every step by itself, through both calls for a single step. After each, the
-/// volatile half, the fuses, every byte and the answer are compared.
+/// volatile half, the fuses, every byte and the answer are compared; before the
+/// first and after each, the reason.
 pub fn single_steps(case: &Case, mut reached: Option<&mut Reached>) -> Option<Differs> {
     let mut card = case.memory.clone();
     let mut thin = case.memory.clone();
     let mut model = case.memory.clone();
     let mut before = case.memory.clone();
     let (mut fuses, mut volatile) = (case.fuses, case.start);
+    if let Some(text) = reason(&card, fuses, volatile, reached.as_deref_mut()) {
+        return Some(Differs { at: 0, text });
+    }
     for (at, &step) in case.steps.iter().enumerate() {
         let told = zhavdurgon::step(&mut card, fuses, volatile, step);
         let expected = model_step(&mut model, fuses, volatile, step);
@@ -168,6 +196,9 @@ pub fn single_steps(case: &Case, mut reached: Option<&mut Reached>) -> Option<Di
             before.copy_from_slice(&card);
         }
         (fuses, volatile) = (told.fuses, told.volatile);
+        if let Some(text) = reason(&card, fuses, volatile, reached.as_deref_mut()) {
+            return Some(Differs { at, text });
+        }
     }
     if !same_tries(&card) {
         return Some(Differs {

@@ -102,6 +102,20 @@ pub const CLAUSE: Values = &[
     "flags over 127",
 ];
 pub const BEFORE: Values = &["10", "14"];
+pub const CHECKS: Values = &["10", "14", "9"];
+pub const REASON: Values = &[
+    "the right is there",
+    "no programming",
+    "nothing stored",
+    "RST at the wrong level",
+    "never allowed",
+    "SV missing",
+    "P1 missing",
+    "E1 missing",
+    "MF blown",
+    "ISS blown",
+    "FUS low",
+];
 pub const RAN: Values = &[
     "done whole",
     "of 4,096 steps",

@@ -3,6 +3,7 @@
 use crate::chance::Chance;
 use crate::words::{of_model, Words};
 use crate::zones;
+use model::fuses::{EC_EN, ISS};
 use model::lines::{self, CLK, PGM, VCC};
 use model::{Card, Volatile, BYTES, LAST_ADDRESS};
 
@@ -55,6 +56,14 @@ pub fn any_fuses(chance: &mut Chance) -> u8 {
         chance.pick(&[7, 5])
     } else {
         chance.byte() & 7
+    }
+}
+
+/// Fuses on the brink: in MFZ often MF alone bars, which chance seldom comes to.
+fn fuses_at(chance: &mut Chance, address: u16) -> u8 {
+    match zones::zone_of(address) {
+        zones::MFZ if chance.one_in(2) => chance.pick(&[ISS, ISS | EC_EN]),
+        _ => any_fuses(chance),
     }
 }
 
@@ -192,7 +201,7 @@ pub fn chance_steps(chance: &mut Chance) -> Case {
 /// CLK's fall from any sound state, where most of what a step can do is done, or
 /// VCC's.
 pub fn brink(chance: &mut Chance) -> Case {
-    let zone = chance.weighted(&[1, 1, 4, 12, 1, 2, 8, 8, 1, 2, 2, 2, 1, 2, 1, 2]);
+    let zone = chance.weighted(&[1, 1, 4, 12, 1, 2, 8, 8, 1, 4, 2, 2, 1, 2, 1, 2]);
     let (first, last) = zones::ends(zone);
     let address = match chance.below(5) {
         0 => first,
@@ -215,7 +224,7 @@ pub fn brink(chance: &mut Chance) -> Case {
     }
     Case {
         memory: any_memory(chance).to_vec(),
-        fuses: any_fuses(chance),
+        fuses: fuses_at(chance, address),
         start: of_model(start),
         steps,
     }

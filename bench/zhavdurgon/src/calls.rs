@@ -35,6 +35,12 @@ pub struct Flags {
 }
 
 #[repr(C)]
+pub struct Reason {
+    pub reason: u8,
+    pub refusal: u8,
+}
+
+#[repr(C)]
 pub struct Made {
     pub count: usize,
     pub refusal: u8,
@@ -59,10 +65,12 @@ const _: () = {
     assert!(size_of::<Volatile>() == 12 && size_of::<Stepped>() == 16);
     assert!(size_of::<Told>() == 3 && size_of::<Flags>() == 5);
     assert!(size_of::<Ran>() == 32 && size_of::<Made>() == 16);
+    assert!(size_of::<Reason>() == 2);
     assert!(size_of::<Card>() == 2 && size_of::<Session>() == 24);
 };
 
 extern "C" {
+    pub fn zhav_version() -> u32;
     pub fn zhav_fresh() -> Volatile;
     pub fn zhav_step(image: *mut u8, image_len: usize, fuses: u8, v: Volatile, n: u8) -> Stepped;
     pub fn zhav_step_at(
@@ -84,6 +92,7 @@ extern "C" {
     ) -> Ran;
     pub fn zhav_flags(v: Volatile) -> Flags;
     pub fn zhav_tries_left(image: *const u8, image_len: usize) -> u32;
+    pub fn zhav_reason(image: *const u8, image_len: usize, fuses: u8, v: Volatile) -> Reason;
     pub fn zhav_open_card(
         file: *const u8,
         file_len: usize,

@@ -17,7 +17,10 @@
 #![warn(missing_docs)]
 
 mod calls;
+mod reason;
 pub mod refusal;
+
+pub use reason::Reason;
 
 /// The lines of a step: a byte of levels, in which a set bit is a high line.
 pub mod line {
@@ -43,6 +46,17 @@ pub mod fuse {
     pub const EC_EN: u8 = 2;
     /// The issuer's fuse.
     pub const ISS: u8 = 4;
+}
+
+/// The version of the header that these functions are written for: major times
+/// 10,000, minor times 100 and patch.
+pub const VERSION: u32 = 101;
+
+/// The library's own version, to be compared with [`VERSION`].
+#[must_use]
+pub fn version() -> u32 {
+    // SAFETY: the call has no condition.
+    unsafe { calls::zhav_version() }
 }
 
 /// Bytes of the image.
@@ -228,6 +242,22 @@ pub fn flags(volatile: Volatile) -> Result<Flags, u8> {
 pub fn tries_left(image: &[u8]) -> u32 {
     // SAFETY: pointer and length are those of a slice.
     unsafe { calls::zhav_tries_left(image.as_ptr(), image.len()) }
+}
+
+/// Why CLK's fall would change nothing by right, PGM taken as low already, or
+/// that the right is there. Ask while programming is under way, after CLK has
+/// risen and before it falls; afterwards it is always [`Reason::NoProgramming`].
+/// While PGM is high CLK's fall itself is refused, by 4. Refused by 10, 14 and 9.
+///
+/// # Panics
+///
+/// Where the library is of a later version and has a reason that is not known here.
+pub fn reason(image: &[u8], fuses: u8, volatile: Volatile) -> Result<Reason, u8> {
+    // SAFETY: pointer and length are those of a slice.
+    let told = unsafe { calls::zhav_reason(image.as_ptr(), image.len(), fuses, volatile) };
+    let number = answer(told.reason, told.refusal)?;
+    let known = Reason::ALL.get(usize::from(number));
+    Ok(*known.expect("a reason of this version"))
 }
 
 /// Opens a card file: the memory section goes to the image, the fuse byte is
