@@ -1,4 +1,5 @@
-/* A whole bench: a card is powered, opened, spent from, refused and read out. */
+/* A whole bench: a card is powered, opened, spent from, refused and read out, and asked why
+ * nothing was spent. */
 #include "zhavdurgon.h"
 
 #include <stdio.h>
@@ -43,6 +44,19 @@ static void go_to(Card *card, size_t address) {
     done(card, zhav_walk(0, address - card->half.address, steps, sizeof steps));
 }
 
+/* Writes a bit of the application zone to 0. Why nothing would come of it is asked before the
+ * last step, CLK's fall. */
+static uint8_t spend(Card *card, size_t address) {
+    go_to(card, address);
+    ZhavMade made = zhav_program(0, 0, steps, sizeof steps);
+    need(made.refusal == ZHAV_ACCEPTED, "an act was refused");
+    run(card, steps, made.count - 1);
+    ZhavWhy why = zhav_reason(card->image, sizeof card->image, card->fuses, card->half);
+    need(why.refusal == ZHAV_ACCEPTED, "the reason was refused");
+    run(card, steps + made.count - 1, 1);
+    return why.reason;
+}
+
 /* The pin shows the bit of the address that each clock arrives at. */
 static void read_zone(Card *card, size_t first, size_t bytes, uint8_t *out) {
     go_to(card, first - 1);
@@ -53,6 +67,7 @@ static void read_zone(Card *card, size_t first, size_t bytes, uint8_t *out) {
 }
 
 int main(void) {
+    need(zhav_version() == ZHAV_VERSION, "the library and the header differ in version");
     /* A card whose code is 0xC0DE, ISS and EC_EN blown, its application zone unspent. */
     Card card = {.fuses = ZHAV_MF, .half = zhav_fresh()};
     memset(card.image, 255, sizeof card.image);
@@ -66,15 +81,16 @@ int main(void) {
     done(&card, zhav_open(0, 0xC0DF, card.image[12], steps, sizeof steps));
     need(!zhav_flags(card.half).sv, "a wrong code opened the card");
     printf("wrong code: %u tries left\n", zhav_tries_left(card.image, sizeof card.image));
+    uint8_t reason = spend(&card, 184);
+    need(reason == ZHAV_SV_MISSING && card.image[23] == 255, "a closed card was spent from");
+    printf("nothing spent: reason %u, SV missing\n", reason);
     done(&card, zhav_open(0, 0xC0DE, card.image[12], steps, sizeof steps));
     need(zhav_flags(card.half).sv, "the code didn't open the card");
     printf("opened: %u tries left\n", zhav_tries_left(card.image, sizeof card.image));
 
     /* Four units are spent: bits of the application zone go from 1 to 0. */
-    for (size_t unit = 0; unit < 4; unit++) {
-        go_to(&card, 184 + unit);
-        done(&card, zhav_program(0, 0, steps, sizeof steps));
-    }
+    for (size_t unit = 0; unit < 4; unit++)
+        need(spend(&card, 184 + unit) == ZHAV_RIGHT_IS_THERE, "a unit can't be spent");
 
     /* Two lines at once are refused, and nothing changes. */
     Card before;

@@ -9,11 +9,12 @@
 
 _Static_assert(sizeof(ZhavVolatile) == 12 && sizeof(ZhavStepped) == 16, "the halves' layout");
 _Static_assert(sizeof(ZhavTold) == 3 && sizeof(ZhavFlags) == 5, "the bytes' layout");
+_Static_assert(sizeof(ZhavWhy) == 2 && sizeof(ZhavCard) == 2, "the pairs' layout");
 _Static_assert(offsetof(ZhavRan, done) == 16 && sizeof(ZhavRan) == 32, "a run's layout");
 _Static_assert(sizeof(ZhavMade) == 16 && sizeof(ZhavSession) == 24, "the counts' layout");
 
 enum { RESET, WALK, SHOW16, SHOW32, PROGRAM, BLOW, OPEN, ACTS };
-enum { STEP = ACTS, STEP_AT, RUN, FLAGS, CARD, SESSION, CALLS };
+enum { STEP = ACTS, STEP_AT, RUN, FLAGS, REASON, CARD, SESSION, CALLS };
 
 /* The numbers that the header names for a call. */
 static const struct {
@@ -31,6 +32,7 @@ static const struct {
     [STEP_AT] = {"zhav_step_at", {10, 14, 9, 1, 2, 3, 4, 5, 6, 7}},
     [RUN] = {"zhav_run", {10, 14, 9, 18, 19, 1, 2, 3, 4, 5, 6, 7}},
     [FLAGS] = {"zhav_flags", {9}},
+    [REASON] = {"zhav_reason", {10, 14, 9}},
     [CARD] = {"zhav_open_card", {10, 11, 12, 13, 14, 17}},
     [SESSION] = {"zhav_open_session", {10, 11, 12, 13, 14, 15, 16, 17}},
 };
@@ -100,6 +102,18 @@ static void step_calls(size_t length, uint8_t fuses, ZhavVolatile half, uint8_t 
     free(image);
     free(before);
     free(thin);
+}
+
+/* The number is that of a step; one under 9 comes after the checks that both calls make. */
+static void reason_call(size_t length, uint8_t fuses, ZhavVolatile half, int number) {
+    uint8_t *image = block(length), *before = copy(image, length);
+    ZhavWhy why = zhav_reason(image, length, fuses, half);
+    gave(REASON, why.refusal, number < ZHAV_STATE ? ZHAV_ACCEPTED : number);
+    need(why.refusal ? why.reason == ZHAV_UNANSWERED : why.reason <= ZHAV_FUS_LOW,
+         "a reason that the header doesn't name");
+    need(memcmp(image, before, length) == 0, "asking changes the image");
+    free(image);
+    free(before);
 }
 
 static void run_call(size_t length, uint8_t fuses, ZhavVolatile half, const uint8_t *steps,
@@ -253,6 +267,7 @@ static void known_cases(void) {
         ZhavVolatile half = {step_cases[i].lines, 0, step_cases[i].flags};
         uint8_t n = step_cases[i].n, number = step_cases[i].number;
         step_calls(ZHAV_IMAGE_BYTES, 7, half, n, number);
+        reason_call(ZHAV_IMAGE_BYTES, 7, half, number);
         run_call(ZHAV_IMAGE_BYTES, 7, half, &n, 1, 1, number);
     }
     for (size_t i = 0; i < COUNT(file_cases); i++)
@@ -293,6 +308,7 @@ static void chance_calls(void) {
     /* Any byte, or one line turned over. */
     uint8_t n = (uint8_t)(chance(2) ? chance(256) : half.lines ^ 1u << chance(6));
     step_calls(length, fuses, half, n, number);
+    reason_call(length, fuses, half, number);
 
     size_t count = chance(chance(8) ? 9 : 5000), room = chance(4) ? count : chance(5000);
     if (number == ANY && count > ZHAV_MOST_STEPS) number = ZHAV_RUN_LONG;
