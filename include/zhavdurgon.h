@@ -137,28 +137,34 @@ typedef struct {
  * about it.
  */
 enum ZhavReason {
-    ZHAV_RIGHT_IS_THERE = 0, /* the right is there: lower PGM, then CLK (a write on a 0, an erase
-                                of 1s and a second blow of MF or EC_EN have it too, and change
-                                nothing) */
-    ZHAV_NO_PROGRAMMING = 1, /* no programming under way: with VCC on and CLK low raise PGM, set
-                                I/O, raise CLK, and ask before it falls (I/O low writes, high
-                                erases) */
-    ZHAV_NOTHING_STORED = 2, /* the address stores nothing: go elsewhere (1424 to 1480 and 1482
-                                to 1503 store nothing) */
-    ZHAV_WRONG_RST = 3,      /* RST at the wrong level: before CLK rises, raise it at a fuse,
-                                lower it elsewhere (its fall goes to address 0) */
-    ZHAV_NEVER_ALLOWED = 4,  /* never allowed for this zone at this level: no flag helps, level 1
-                                may allow it (FUS high with ISS unblown; a fuse is never erased;
-                                level 2 with EC_EN blown erases in EC at 1232 only) */
+    ZHAV_RIGHT_IS_THERE = 0, /* the right is there: lower PGM, then CLK; a write on a 0,
+                                an erase of 1s and a second blow of MF or EC_EN change
+                                nothing all the same, and an erase in EC at level 2
+                                erases AZ */
+    ZHAV_NO_PROGRAMMING = 1, /* no programming under way: with VCC on and CLK low raise
+                                PGM, set I/O (low writes, high erases), raise CLK, and
+                                ask before it falls */
+    ZHAV_NOTHING_STORED = 2, /* the address stores nothing: go elsewhere; 1424 to 1480
+                                and 1482 to 1503 store nothing */
+    ZHAV_WRONG_RST = 3,      /* RST at the wrong level: let CLK fall, then raise RST at a
+                                fuse, lower it elsewhere and walk back, since its fall
+                                goes to address 0 */
+    ZHAV_NEVER_ALLOWED = 4,  /* never allowed for this zone at this level: no flag helps;
+                                level 1 (FUS high, ISS unblown) allows it, but not in FZ,
+                                nor the erase of a fuse; at level 2 AZ is erased in EC,
+                                with EC_EN blown at 1232 only */
     ZHAV_SV_MISSING = 5,     /* SV missing: open the card first */
-    ZHAV_P1_MISSING = 6,     /* P1 missing: arrive at 176 while its bit is 1 */
-    ZHAV_E1_MISSING = 7,     /* E1 missing: show the erase key at level 2 first, then, with EC_EN
-                                unblown, write a 1 of EC to 0 (address 0 clears E1) */
+    ZHAV_P1_MISSING = 6,     /* P1 missing: bit 176 was 0 on arrival; erase it, at level
+                                1 or by an erase in EC, then reset and arrive at 176
+                                again */
+    ZHAV_E1_MISSING = 7,     /* E1 missing: open, then show the erase key at 1200 to 1231
+                                at level 2 and, with EC_EN unblown, write a 1 of EC to 0,
+                                all without passing address 0 */
     ZHAV_MF_BLOWN = 8,       /* MF blown: for good, MFZ stays as it is */
-    ZHAV_ISS_BLOWN = 9,      /* ISS blown: for good, the block word does nothing any more, and no
-                                fuse can be blown */
-    ZHAV_FUS_LOW = 10,       /* FUS low: raise it before CLK rises */
-    ZHAV_UNANSWERED = 255    /* beside a refusal */
+    ZHAV_ISS_BLOWN = 9,      /* ISS blown: for good, the block word does nothing any
+                                more, and no fuse can be blown */
+    ZHAV_FUS_LOW = 10,       /* FUS low: let CLK fall, then raise FUS and start again */
+    ZHAV_UNANSWERED = 255    /* no reason: the call was refused */
 };
 
 /* The reason, ZHAV_UNANSWERED where refused, and the refusal. */

@@ -59,38 +59,42 @@ impl fmt::Display for Reason {
     fn fmt(&self, f: &mut fmt::Formatter<'_>) -> fmt::Result {
         f.write_str(match self {
             Reason::RightIsThere => {
-                "the right is there: lower PGM, then CLK (a write on a 0, an erase of 1s and \
-                 a second blow of MF or EC_EN have it too, and change nothing)"
+                "the right is there: lower PGM, then CLK; a write on a 0, an erase of 1s and \
+                 a second blow of MF or EC_EN change nothing all the same, and an erase in EC \
+                 at level 2 erases AZ"
             }
             Reason::NoProgramming => {
-                "no programming under way: with VCC on and CLK low raise PGM, set I/O, raise \
-                 CLK, and ask before it falls (I/O low writes, high erases)"
+                "no programming under way: with VCC on and CLK low raise PGM, set I/O (low \
+                 writes, high erases), raise CLK, and ask before it falls"
             }
             Reason::NothingStored => {
-                "the address stores nothing: go elsewhere (1424 to 1480 and 1482 to 1503 \
-                 store nothing)"
+                "the address stores nothing: go elsewhere; 1424 to 1480 and 1482 to 1503 \
+                 store nothing"
             }
             Reason::WrongRst => {
-                "RST at the wrong level: before CLK rises, raise it at a fuse, lower it \
-                 elsewhere (its fall goes to address 0)"
+                "RST at the wrong level: let CLK fall, then raise RST at a fuse, lower it \
+                 elsewhere and walk back, since its fall goes to address 0"
             }
             Reason::NeverAllowed => {
-                "never allowed for this zone at this level: no flag helps, level 1 may allow \
-                 it (FUS high with ISS unblown; a fuse is never erased; level 2 with EC_EN \
-                 blown erases in EC at 1232 only)"
+                "never allowed for this zone at this level: no flag helps; level 1 (FUS high, \
+                 ISS unblown) allows it, but not in FZ, nor the erase of a fuse; at level 2 \
+                 AZ is erased in EC, with EC_EN blown at 1232 only"
             }
             Reason::SvMissing => "SV missing: open the card first",
-            Reason::P1Missing => "P1 missing: arrive at 176 while its bit is 1",
+            Reason::P1Missing => {
+                "P1 missing: bit 176 was 0 on arrival; erase it, at level 1 or by an erase in \
+                 EC, then reset and arrive at 176 again"
+            }
             Reason::E1Missing => {
-                "E1 missing: show the erase key at level 2 first, then, with EC_EN unblown, \
-                 write a 1 of EC to 0 (address 0 clears E1)"
+                "E1 missing: open, then show the erase key at 1200 to 1231 at level 2 and, \
+                 with EC_EN unblown, write a 1 of EC to 0, all without passing address 0"
             }
             Reason::MfBlown => "MF blown: for good, MFZ stays as it is",
             Reason::IssBlown => {
                 "ISS blown: for good, the block word does nothing any more, and no fuse can \
                  be blown"
             }
-            Reason::FusLow => "FUS low: raise it before CLK rises",
+            Reason::FusLow => "FUS low: let CLK fall, then raise FUS and start again",
         })
     }
 }

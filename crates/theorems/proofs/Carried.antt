@@ -12,7 +12,7 @@ use Rattle.rules.specs.Lines.{VCC, RST, CLK, PGM, FUS, high}
 use Rattle.rules.specs.Rights.{held}
 use Rattle.rules.specs.Programming.{operationNow, memoryAfter, fusesAfter}
 use Rattle.rules.specs.Refusals.{lineRefusal, refusal, stateRefusal}
-use Rattle.rules.specs.Steps.{follows, withVolatile, vccFalls, rstFalls, programmed, clocked}
+use Rattle.rules.specs.Steps.{next, follows, withVolatile, vccFalls, rstFalls, programmed, clocked}
 use Rattle.rules.specs.Card.{refusalIn, answered, checkedStep, checkedAnswer}
 use Rattle.rules.specs.ReasonPromises.{reasonOf, performed, lowered, lowering, withLow, Reason-is-true, is}
 use Rattle.theorems.proofs.Tests.{all, below, every, of-every, and-left, and-right, guarded, beq-true}
@@ -35,7 +35,7 @@ kind Resets = Leaves
 kind Unlatches = Leaves
 kind Clocks = Leaves
 
--- Of levels that it makes, or where nothing is made, of `same` levels.
+-- Whether it makes levels alone; where it makes nothing, whether they are the `same`.
 unfoldable makesLevels : Kind → Bool → Bool
 makesLevels Still same = same
 makesLevels Levels same = true
@@ -143,7 +143,9 @@ taken : (c : Card) (n : ℕ) → stateRefusal c ≡ 0 → checkedStep c n ≡ mo
 unfolding checkedStep
 taken c n e = rw e (stepped-moves c n)
 
-unrefused : (c : Card) (n : ℕ) → stateRefusal c ≡ 0 → lineRefusal (c .volatile .lines) (c .volatile .programming) n ≡ 0 → refusalIn (checkedAnswer c n) ≡ 0
+unrefused :
+    (c : Card) (n : ℕ) → stateRefusal c ≡ 0 → lineRefusal (c .volatile .lines) (c .volatile .programming) n ≡ 0 →
+    refusalIn (checkedAnswer c n) ≡ 0
 unfolding checkedAnswer answered refusal refusalIn
 unrefused c n e r = rw (e, r) refl
 
@@ -163,8 +165,11 @@ module _ (c : Card) (e : stateRefusal c ≡ 0) where
   still-sound : stateRefusal low ≡ 0
   unfolding refusal
   still-sound =
-      rw (sym (accepted c (lowering PGM c) (facts .lowers)) ∙ (stepped-moves c (lowering PGM c) ∙ (sym (taken c (lowering PGM c) e) ∙ lowered-to)))
-      at (sound-stays-sound c (lowering PGM c) e (facts .lowers))
+      let n = lowering PGM c in
+      let next-is-low : next c n ≡ low =
+      sym (accepted c n (facts .lowers)) ∙ (stepped-moves c n ∙ (sym (taken c n e) ∙ lowered-to))
+      in
+      rw next-is-low at (sound-stays-sound c n e (facts .lowers))
 
   same-operation : operationOf low ≡ operationOf c
   unfolding operationNow held follows

@@ -12,26 +12,32 @@ use volatile::Volatile;
 fn in_words(out: Output, r: Reason) -> Output {
     match r {
         Reason::NoProgramming => out.say(
-            b"no programming under way: with VCC on and CLK low raise PGM, set I/O, raise CLK, and ask before it falls\n",
+            b"no programming under way: with VCC on and CLK low raise PGM, set I/O (low writes, high erases), raise CLK, and ask before it falls\n",
         ),
-        Reason::NothingStored => out.say(b"the address stores nothing: go elsewhere\n"),
+        Reason::NothingStored => out.say(
+            b"the address stores nothing: go elsewhere; 1424 to 1480 and 1482 to 1503 store nothing\n",
+        ),
         Reason::WrongRST => out.say(
-            b"RST at the wrong level: before CLK rises, raise it at a fuse, lower it elsewhere\n",
+            b"RST at the wrong level: let CLK fall, then raise RST at a fuse, lower it elsewhere and walk back, since its fall goes to address 0\n",
         ),
         Reason::NeverAllowed => out.say(
-            b"never allowed for this zone at this level: no flag helps, level 1 may allow it\n",
+            b"never allowed for this zone at this level: no flag helps; level 1 (FUS high, ISS unblown) allows it, but not in FZ, nor the erase of a fuse; at level 2 AZ is erased in EC, with EC_EN blown at 1232 only\n",
         ),
         Reason::SVMissing => out.say(b"SV missing: open the card first\n"),
-        Reason::P1Missing => out.say(b"P1 missing: arrive at 176 while its bit is 1\n"),
+        Reason::P1Missing => out.say(
+            b"P1 missing: bit 176 was 0 on arrival; erase it, at level 1 or by an erase in EC, then reset and arrive at 176 again\n",
+        ),
         Reason::E1Missing => out.say(
-            b"E1 missing: show the erase key at level 2 first, then, with EC_EN unblown, write a 1 of EC to 0\n",
+            b"E1 missing: open, then show the erase key at 1200 to 1231 at level 2 and, with EC_EN unblown, write a 1 of EC to 0, all without passing address 0\n",
         ),
         Reason::MFBlown => out.say(b"MF blown: for good, MFZ stays as it is\n"),
         Reason::ISSBlown => out.say(
             b"ISS blown: for good, the block word does nothing any more, and no fuse can be blown\n",
         ),
-        Reason::FUSLow => out.say(b"FUS low: raise it before CLK rises\n"),
-        Reason::RightIsThere => out.say(b"the right is there: lower PGM, then CLK\n"),
+        Reason::FUSLow => out.say(b"FUS low: let CLK fall, then raise FUS and start again\n"),
+        Reason::RightIsThere => out.say(
+            b"the right is there: lower PGM, then CLK; a write on a 0, an erase of 1s and a second blow of MF or EC_EN change nothing all the same, and an erase in EC at level 2 erases AZ\n",
+        ),
     }
 }
 
