@@ -121,7 +121,7 @@ neverReasons =
 unfoldable pub thingReasons : List Case
 unfolding tells
 thingReasons =
-    -- A write in AZ asks for SV and, at level 2, for P1; R1 is not P1, and match is asked for nowhere.
+    -- A write in AZ asks for SV and, at level 2, for P1; R1 is not P1, and nothing asks for match.
     tells false 5 7 178 none SVMissing ∷
     tells false 5 7 178 P1 SVMissing ∷
     tells false 5 7 178 (SV + R1) P1Missing ∷
@@ -139,8 +139,7 @@ thingReasons =
     tells false 37 6 1376 SV MFBlown ∷
     tells true 37 6 1391 SV MFBlown ∷
     tells false 37 7 1376 SV RightIsThere ∷
-    -- "for the block word and the fuses the level alone is not this reason": SV, then ISS, then FUS; MF and EC_EN are asked for nowhere
-    -- here.
+    -- "for the block word and the fuses the level alone is not this reason": SV, then ISS, then FUS; none of them asks for MF or EC_EN.
     tells false 5 3 1392 none SVMissing ∷
     tells false 5 3 1392 SV ISSBlown ∷
     tells false 5 0 1392 SV ISSBlown ∷
