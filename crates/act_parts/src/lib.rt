@@ -1,4 +1,6 @@
 // The acts at a place of the buffer: each puts its steps there, as far as there is room, and gives back the place after them.
+#![tactic(auto)]
+
 ghost use Rattle.memory.specs.Buffer.{Put};
 ghost use Rattle.rules.specs.Maker.{walk, show};
 ghost use Rattle.act_parts.specs.Parts.{up_to_code, use_try};

@@ -1,4 +1,6 @@
 // Reads a text from standard input and writes its session to standard output. Wrong text gets one line on standard error.
+#![tactic(auto)]
+
 use console::{Input, Output};
 use libc::STDERR_FILENO;
 use report::Text;

@@ -1,4 +1,6 @@
 // The card, driven line by line: a step, a run.
+#![tactic(auto)]
+
 ghost use Rattle.std.specs.Prelude.{◌≡◌, length};
 ghost use Rattle.volatile.specs.Packed.{given};
 ghost use Rattle.refusals.specs.Before.{given_refusal, given_run_refusal};
@@ -16,7 +18,7 @@ mod moved;
 mod quick;
 
 // The result of a step: both halves, and the pin's answer or the refusal.
-#[derive(Drop)]
+#[derive(Clone, Copy)]
 pub struct Stepped {
     pub fuses: u8,
     pub volatile: Volatile,
@@ -24,7 +26,7 @@ pub struct Stepped {
 }
 
 // The same in plain numbers: both halves, the pin's answer, 1 where refused, and the refusal, 0 if none.
-#[derive(Drop)]
+#[derive(Clone, Copy)]
 pub struct Told {
     pub fuses: u8,
     pub volatile: Volatile,
@@ -33,7 +35,7 @@ pub struct Told {
 }
 
 // The result of a run: both halves, how many steps were done, and the refusal, 0 if none.
-#[derive(Drop)]
+#[derive(Clone, Copy)]
 pub struct Ran {
     pub fuses: u8,
     pub volatile: Volatile,

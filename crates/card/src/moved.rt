@@ -8,7 +8,7 @@ ghost use Rattle.card.specs.Moves.{moved, left_by};
 use volatile::Volatile;
 
 // The result of a step that leaves image and fuses as they are: the volatile half, the pin, and 0 or the refusal.
-#[derive(Drop)]
+#[derive(Clone, Copy)]
 pub(crate) struct Moved {
     pub(crate) volatile: Volatile,
     pub(crate) pin: u8,
@@ -16,7 +16,7 @@ pub(crate) struct Moved {
 }
 
 // The result of any step: the fuses too.
-#[derive(Drop)]
+#[derive(Clone, Copy)]
 pub(crate) struct Left {
     pub(crate) fuses: u8,
     pub(crate) volatile: Volatile,

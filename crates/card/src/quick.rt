@@ -8,7 +8,7 @@ use memory::is_set;
 use volatile::Volatile;
 
 // The half after the step. Any other step is left to the run.
-#[derive(Drop)]
+#[derive(Clone, Copy)]
 pub(crate) enum Quick {
     To(Volatile),
     Other,

@@ -1,4 +1,6 @@
 // The cases that a program runs beside the proved table: case, expected, got.
+#![tactic(auto)]
+
 mod buffers;
 mod effects;
 mod lines;

@@ -3,7 +3,7 @@ use crate::names;
 use console::Output;
 use volatile::Volatile;
 
-#[derive(Drop)]
+#[derive(Clone, Copy)]
 pub(crate) struct Table {
     out: Output,
     differences: u32,

@@ -1,4 +1,6 @@
 // A program's ends: its arguments, its input and its output. What fails there is told in one line on standard error.
+#![tactic(auto)]
+
 ghost use Rattle.std.specs.Prelude.{◌≡◌, length};
 ghost use Rattle.memory.specs.Buffer.{Put};
 ghost use Rattle.console.specs.Told.{told_line};
@@ -7,7 +9,7 @@ ghost use Rattle.console.specs.Ends.{outcome, Part, Taken, NotLost, Said, stoppe
 use libc::{STDERR_FILENO, STDIN_FILENO, STDOUT_FILENO};
 
 // The outcome of one read.
-#[derive(Drop)]
+#[derive(Clone, Copy)]
 enum Read {
     Failed,
     End,
@@ -15,14 +17,14 @@ enum Read {
 }
 
 // What an input had for a buffer: so many bytes, at its start. Or a read failed, which is not the end of the input.
-#[derive(Drop)]
+#[derive(Clone, Copy)]
 pub enum Input {
     Bytes(usize),
     Unreadable,
 }
 
 // Standard output so far: all that was said is written; a write failed; or the program stopped, which was told.
-#[derive(Drop)]
+#[derive(Clone, Copy)]
 pub enum Output {
     Open,
     Lost,

@@ -1,4 +1,6 @@
 // A number in decimal, as bytes in a lent buffer.
+#![tactic(auto)]
+
 ghost use Rattle.std.specs.Prelude.{◌≡◌, ◌∷◌, [], ◌≤◌, length};
 ghost use Rattle.memory.specs.Buffer.{Put};
 ghost use Rattle.decimal.specs.Decimal.{digit, decimal};

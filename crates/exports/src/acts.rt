@@ -9,7 +9,7 @@ use maker::Made;
 
 // The result of an act: how many steps were written, and the refusal, 0 if none.
 #[repr(C)]
-#[derive(Drop)]
+#[derive(Clone, Copy)]
 pub struct ZhavMade {
     pub count: usize,
     pub refusal: u8,

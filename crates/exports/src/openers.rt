@@ -5,7 +5,7 @@ use file::{CardFile, Session};
 
 // The result of opening a card file: the fuse byte, 0 where refused, and the refusal, 0 if none.
 #[repr(C)]
-#[derive(Drop)]
+#[derive(Clone, Copy)]
 pub struct ZhavCard {
     pub fuses: u8,
     pub refusal: u8,
@@ -14,7 +14,7 @@ pub struct ZhavCard {
 // The result of opening a session: where in the file the steps start, how many there are, the fuse byte, each 0 where refused, and the
 // refusal, 0 if none.
 #[repr(C)]
-#[derive(Drop)]
+#[derive(Clone, Copy)]
 pub struct ZhavSession {
     pub first: usize,
     pub steps: usize,

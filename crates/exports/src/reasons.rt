@@ -11,7 +11,7 @@ const UNANSWERED: u8 = 255;
 
 // The reason, 0 where the right is there and 255 where refused, and the refusal, 0 if none.
 #[repr(C)]
-#[derive(Drop)]
+#[derive(Clone, Copy)]
 pub struct ZhavWhy {
     pub reason: u8,
     pub refusal: u8,

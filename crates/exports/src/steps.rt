@@ -14,7 +14,7 @@ use walk::Walked;
 
 // The result of a step: both halves, the pin's answer, 1 where refused, and the refusal, 0 if none.
 #[repr(C)]
-#[derive(Drop)]
+#[derive(Clone, Copy)]
 pub struct ZhavStepped {
     pub half: Volatile,
     pub fuses: u8,
@@ -24,7 +24,7 @@ pub struct ZhavStepped {
 
 // The result of a step beside the half that is lent.
 #[repr(C)]
-#[derive(Drop)]
+#[derive(Clone, Copy)]
 pub struct ZhavTold {
     pub fuses: u8,
     pub answer: u8,
@@ -33,7 +33,7 @@ pub struct ZhavTold {
 
 // The result of a run: both halves, how many steps were done, and the refusal, 0 if none.
 #[repr(C)]
-#[derive(Drop)]
+#[derive(Clone, Copy)]
 pub struct ZhavRan {
     pub half: Volatile,
     pub done: usize,
@@ -43,7 +43,7 @@ pub struct ZhavRan {
 
 // The flags, 0 or 1 each, and the refusal, 0 if none; where refused, the flags are 0.
 #[repr(C)]
-#[derive(Drop)]
+#[derive(Clone, Copy)]
 pub struct ZhavFlags {
     pub sv: u8,
     pub p1: u8,

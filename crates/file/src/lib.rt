@@ -1,16 +1,18 @@
 // The openers of a card file and of a session: "Opening answers either the parts or a number."
+#![tactic(auto)]
+
 ghost use Rattle.std.specs.Prelude.{◌+◌, ◌≤◌, ◌≡◌, length};
 ghost use Rattle.memory.specs.Image.{bytes};
 ghost use Rattle.rules.specs.File.{memory_section};
 ghost use Rattle.file.specs.Opening.{CardOpened, SessionOpened, Handed};
 
-#[derive(Drop)]
+#[derive(Clone, Copy)]
 pub enum CardFile {
     Card { fuses: u8 },
     Refused(u8),
 }
 
-#[derive(Drop)]
+#[derive(Clone, Copy)]
 pub enum Session {
     Parts { fuses: u8, steps: usize },
     Refused(u8),

@@ -1,4 +1,6 @@
 // 10 to 17: whether a card file or a session opens.
+#![tactic(auto)]
+
 ghost use Rattle.std.specs.Prelude.{◌+◌, ◌<◌, ◌≡◌, length};
 ghost use Rattle.rules.specs.File.{count as countAt, parts_refusal, card_refusal, session_refusal};
 

@@ -1,4 +1,6 @@
 // A run on a fresh card, told in the session program's four lines, and what a session's bytes come to.
+#![tactic(auto)]
+
 ghost use Rattle.std.specs.Prelude.{◌≡◌, length};
 ghost use Rattle.report.specs.Buffer.{Made, Enough};
 ghost use Rattle.fresh_run.specs.FreshRun.{fresh_card_run, run_text, session_text, enough};

@@ -1,5 +1,7 @@
 // The sessions to learn from: what each shows, that its text assembles to the recorded bytes, and its four lines.
 // Then each error of a text.
+#![tactic(auto)]
+
 ghost use Rattle.console.specs.Ends.{Taken};
 
 use console::{Input, Output};

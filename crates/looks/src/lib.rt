@@ -1,4 +1,6 @@
 // The calls that only look at a card: the flags, the tries left, the reason why a write would do nothing.
+#![tactic(auto)]
+
 ghost use Rattle.std.specs.Prelude.{◌≡◌};
 ghost use Rattle.rules.specs.Card.{tries_left};
 ghost use Rattle.rules.specs.Reason.{number, first_missing, reason};
@@ -11,7 +13,7 @@ use rules::Reason;
 use volatile::Volatile;
 
 // What the flags call tells.
-#[derive(Drop)]
+#[derive(Clone, Copy)]
 pub enum FlagsAnswer {
     Held {
         sv: bool,
@@ -48,7 +50,7 @@ pub fn tries_left(image: &[u8]) -> u32
 }
 
 // What the call that gives the reason tells.
-#[derive(Drop)]
+#[derive(Clone, Copy)]
 pub enum ReasonAnswer {
     Told(Reason),
     Refused(u8),

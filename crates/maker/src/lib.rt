@@ -1,4 +1,6 @@
 // The step maker: the reader's acts as steps in a lent buffer, "From idle .. back to idle, FUS kept".
+#![tactic(auto)]
+
 ghost use Rattle.std.specs.Prelude.{◌+◌, ◌*◌, ◌≤◌, ◌≡◌, cond, eqb, ltb};
 ghost use Rattle.rules.specs.Maker.{reset as resetSteps, walk as walkSteps, show, program as programSteps, blow as blowSteps, open_card};
 ghost use Rattle.rules.specs.Maker.{walk_refusal, open_refusal};
@@ -10,7 +12,7 @@ use act_parts::levels;
 const LAST: usize = rules::LAST as usize;
 
 // The result of an act: so many steps written, or a refusal and nothing written.
-#[derive(Drop)]
+#[derive(Clone, Copy)]
 pub enum Made {
     Wrote(usize),
     Refused(u8),

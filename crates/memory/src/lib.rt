@@ -1,4 +1,6 @@
 // The leaves on a lent image, and bytes put into a lent buffer. A byte past the end reads 0, and a store there does nothing.
+#![tactic(auto)]
+
 ghost use Rattle.std.specs.Prelude.{◌≡◌, length, replicate, set};
 ghost use Rattle.memory.specs.Image.{digit, bit, written, erased_word, filled};
 ghost use Rattle.memory.specs.Buffer.{Put};

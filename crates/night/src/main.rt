@@ -1,4 +1,6 @@
 // The night that went wrong: nine visits with the right code, by a reader that spends a try and never erases, and by one that erases.
+#![tactic(auto)]
+
 use console::Output;
 use maker::Made;
 use rules::Answer;
@@ -13,21 +15,21 @@ const IDLE: u8 = 17;
 const ERASE: usize = 6;
 
 // What the card keeps from run to run beside its memory.
-#[derive(Drop)]
+#[derive(Clone, Copy)]
 struct Halves {
     fuses: u8,
     volatile: Volatile,
 }
 
 // How many steps the maker's open has, and the number by which it was refused, 0 if it was not.
-#[derive(Drop)]
+#[derive(Clone, Copy)]
 struct Opening {
     count: usize,
     refusal: u8,
 }
 
 // What a visit showed, and the card behind it.
-#[derive(Drop)]
+#[derive(Clone, Copy)]
 struct Seen {
     refusal: u8,
     pin: u8,

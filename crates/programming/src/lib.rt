@@ -1,4 +1,6 @@
 // CLK's and VCC's fall while programming is under way. No other edge can change image or fuses.
+#![tactic(auto)]
+
 ghost use Rattle.std.specs.Prelude.{◌≡◌};
 ghost use Rattle.rules.specs.Programming.{memory_after};
 ghost use Rattle.rules.specs.Halves.{off};
@@ -10,14 +12,14 @@ use rules::Operation;
 use volatile::Volatile;
 
 // What an operation leaves beside the image: the fuses, and whether it was a write that turned a 1 into 0.
-#[derive(Drop)]
+#[derive(Clone, Copy)]
 struct Done {
     fuses: u8,
     turned: bool,
 }
 
 // What the edge leaves beside the image.
-#[derive(Drop)]
+#[derive(Clone, Copy)]
 pub struct Programmed {
     pub fuses: u8,
     pub volatile: Volatile,

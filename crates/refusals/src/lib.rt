@@ -1,4 +1,6 @@
 // The refusals that a step and a run give before anything else.
+#![tactic(auto)]
+
 ghost use Rattle.std.specs.Prelude.{◌≡◌};
 ghost use Rattle.volatile.specs.Packed.{given};
 ghost use Rattle.refusals.specs.Before.{given_refusal, given_run_refusal};

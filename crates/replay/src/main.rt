@@ -1,5 +1,7 @@
 // Runs recorded sessions from standard input and holds each text to the one that an independent model gave. A record is the session and the
 // text, each after its length, two bytes, low first. The counts are printed only of an input that is whole records to its end.
+#![tactic(auto)]
+
 ghost use Rattle.replay.specs.Parts.{Held};
 
 use console::{Input, Output};
@@ -9,7 +11,7 @@ use report::Text;
 const MOST: usize = 10000;
 
 // What is wrong with a record.
-#[derive(Drop)]
+#[derive(Clone, Copy)]
 enum Fault {
     Unreadable,
     Cut,
@@ -17,7 +19,7 @@ enum Fault {
     NoText,
 }
 
-#[derive(Drop)]
+#[derive(Clone, Copy)]
 enum Part {
     Bytes(usize),
     Over,
@@ -25,7 +27,7 @@ enum Part {
 }
 
 // The outcome of a record.
-#[derive(Drop)]
+#[derive(Clone, Copy)]
 enum Outcome {
     Over,
     Same,

@@ -1,4 +1,6 @@
 // Texts made in a lent buffer: the writers of their parts, and the session program's.
+#![tactic(auto)]
+
 ghost use Rattle.std.specs.Prelude.{◌≡◌, ◌++◌, min, length, take};
 ghost use Rattle.memory.specs.Buffer.{Put};
 ghost use Rattle.report.specs.Lines.{done_word, of_word, refused_word, numbered, line, answers_line, bad_text, four_lines};
@@ -7,7 +9,7 @@ ghost use Rattle.report.specs.Buffer.{Made};
 use decimal::places;
 
 // The result of making a text: so many bytes written, or no room for them and the buffer as it was.
-#[derive(Drop)]
+#[derive(Clone, Copy)]
 pub enum Text {
     Wrote(usize),
     TooSmall,

@@ -1,4 +1,6 @@
 // What an access in a zone asks for, and what an operation does there.
+#![tactic(auto)]
+
 ghost use Rattle.std.specs.Prelude.{◌≡◌, ◌-◌, ◌<◌, get_or};
 ghost use Rattle.rules.specs.Zones.{row, is_fuse, is_gap};
 ghost use Rattle.rules.specs.Programming.{asks, effect};

@@ -1,4 +1,5 @@
 // The card's vocabulary: what the definitions in specs/ and the code above them name alike.
+#![tactic(auto)]
 
 // 01's numbers, once for the code; specs/ has them for the definitions (`bytes`, `longest`, and the places in File).
 
@@ -24,7 +25,7 @@ pub const STEP_COUNT_AT: usize = FUSES_AT + 1;
 pub const STEPS_AT: usize = STEP_COUNT_AT + 2;
 
 // Where an address lies: the ten zones of the memory, the block word, the three fuses, and the gaps.
-#[derive(Drop)]
+#[derive(Clone, Copy)]
 pub enum Zone {
     FZ,
     IZ,
@@ -44,7 +45,7 @@ pub enum Zone {
 }
 
 // What reading, writing and erasing in a zone ask for, as masks.
-#[derive(Drop)]
+#[derive(Clone, Copy)]
 pub struct Right {
     pub read: u8,
     pub write: u8,
@@ -52,7 +53,7 @@ pub struct Right {
 }
 
 // What takes effect when CLK falls in programming.
-#[derive(Drop)]
+#[derive(Clone, Copy)]
 pub enum Operation {
     Nothing,
     WriteBit,
@@ -66,7 +67,7 @@ pub enum Operation {
 }
 
 // 02, W1: why CLK's fall would change nothing by right, in 02's order; or that the right is there.
-#[derive(Drop)]
+#[derive(Clone, Copy)]
 pub enum Reason {
     NoProgramming,
     NothingStored,
@@ -82,7 +83,7 @@ pub enum Reason {
 }
 
 // What a step gets: the pin's answer, or a refusal.
-#[derive(Drop)]
+#[derive(Clone, Copy)]
 pub enum Answer {
     Pin(u8),
     Refused(u8),

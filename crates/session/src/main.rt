@@ -1,4 +1,6 @@
 // Reads a session from standard input, runs it on a fresh card and prints `bad N` alone or the four lines.
+#![tactic(auto)]
+
 ghost use Rattle.std.specs.Prelude.{◌≡◌};
 ghost use Rattle.file.specs.Opening.{refusal_in_session};
 ghost use Rattle.report.specs.Buffer.{Made};

@@ -1,4 +1,6 @@
 // What the pin shows on a walk, by the address and the flags alone.
+#![tactic(auto)]
+
 ghost use Rattle.shown.specs.Shown.{Shows};
 
 // What the pin shows: nothing, or the bit.

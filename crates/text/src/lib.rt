@@ -1,4 +1,6 @@
 // A text as a session.
+#![tactic(auto)]
+
 ghost use Rattle.text.specs.Assembling.{Assembles};
 
 use reading::Read;
@@ -8,7 +10,7 @@ mod session;
 mod sheet;
 
 // So many bytes of a session, or the first wrong line and its refusal; line 0 where it is no line's.
-#[derive(Drop)]
+#[derive(Clone, Copy)]
 pub enum Assembled {
     Session(usize),
     Wrong { line: usize, refusal: u8 },

@@ -11,7 +11,7 @@ use crate::sheet;
 use crate::sheet::{Progress, Step};
 use words::Stop;
 
-#[derive(Drop)]
+#[derive(Clone, Copy)]
 pub enum Read {
     Whole(Progress),
     Amiss { line: usize, refusal: u8 },

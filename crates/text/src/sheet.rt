@@ -9,13 +9,13 @@ ghost use Rattle.text.specs.Progress.{sheet_of, Came, Changed};
 use maker::Made;
 use text_lines::{Act, Change, Order};
 
-#[derive(Drop)]
+#[derive(Clone, Copy)]
 pub struct Progress {
     pub fuses: u8,
     pub count: usize,
 }
 
-#[derive(Drop)]
+#[derive(Clone, Copy)]
 pub enum Step {
     On(Progress),
     Stopped(u8),

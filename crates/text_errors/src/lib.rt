@@ -1,4 +1,6 @@
 // The line that says what is wrong with a text, made in a lent buffer.
+#![tactic(auto)]
+
 ghost use Rattle.std.specs.Prelude.{length, drop};
 ghost use Rattle.memory.specs.Buffer.{Put};
 ghost use Rattle.words.specs.Names.{bytes_of};

@@ -1,4 +1,6 @@
 // A line of text as what it orders: a change of the image, or an act of the reader.
+#![tactic(auto)]
+
 ghost use Rattle.std.specs.Prelude.{◌≤◌, ◌≡◌, get_or};
 ghost use Rattle.text_lines.specs.Orders.{word_count, alone as aloneOf, either as either_of, named as named_of, numbered as numberedOf};
 ghost use Rattle.text_lines.specs.ByDigits.{decimal as decimalOf, coded as codedOf};
@@ -6,7 +8,7 @@ ghost use Rattle.text_lines.specs.Orders.{firsts, sizes, bytes_order, byte_order
 
 use words::{Number, Stop};
 
-#[derive(Drop)]
+#[derive(Clone, Copy)]
 pub enum Change {
     Fill {
         first: usize,
@@ -21,7 +23,7 @@ pub enum Change {
     Fuses(u8),
 }
 
-#[derive(Drop)]
+#[derive(Clone, Copy)]
 pub enum Act {
     Power(bool),
     Fus(bool),
@@ -36,7 +38,7 @@ pub enum Act {
     Blow,
 }
 
-#[derive(Drop)]
+#[derive(Clone, Copy)]
 pub enum Order {
     Nothing,
     Image(Change),

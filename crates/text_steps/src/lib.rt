@@ -1,4 +1,6 @@
 // The steps of an act in a lent buffer.
+#![tactic(auto)]
+
 ghost use Rattle.std.specs.Prelude.{◌≤◌, cond, ◌≡◌};
 ghost use Rattle.maker.specs.Act.{Acted};
 ghost use Rattle.text_steps.specs.Steps.{power as powerOf, cut as cut_of, steps_of, maker_refusal, starts_at, refusal_of};

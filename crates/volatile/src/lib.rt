@@ -1,4 +1,6 @@
 // The volatile half, and what each edge makes of it: it goes in by value and comes back.
+#![tactic(auto)]
+
 ghost use Rattle.std.specs.Prelude.{◌≡◌, cond, [], ◌≤◌};
 ghost use Rattle.memory.specs.Image.{bit};
 ghost use Rattle.rules.specs.Halves.{fresh, off};
@@ -71,7 +73,7 @@ const WIRED: u32 = 0xa2a7;
 
 // The volatile half: line levels, address, and the flags as one word. Three wide fields stay in registers.
 #[repr(C)]
-#[derive(Drop)]
+#[derive(Clone, Copy)]
 pub struct Volatile {
     pub lines: u32,
     pub address: u32,

@@ -1,4 +1,6 @@
 // A walk: CLK rises or falls with VCC on, RST and PGM low, where nothing is compared and nothing comes of an arrival.
+#![tactic(auto)]
+
 ghost use Rattle.std.specs.Prelude.{◌≡◌, cond, ◌<◌};
 ghost use Rattle.rules.specs.Steps.{next};
 ghost use Rattle.volatile.specs.Packed.{given, card_of};
@@ -16,7 +18,7 @@ const ALL_BUT_CLK_IO_FUS: u32 = 203;
 pub const NO_WALK: u8 = 255;
 
 // Where a walk leads: the half and the pin; of any other step the half as it came, and NO_WALK.
-#[derive(Drop)]
+#[derive(Clone, Copy)]
 pub struct Walked {
     pub volatile: Volatile,
     pub pin: u8,

@@ -1,5 +1,7 @@
 // Reads a session from standard input, runs it on a fresh card and prints `bad N` alone, or how far it came and why CLK's fall would then
 // change nothing by right.
+#![tactic(auto)]
+
 use card::Ran;
 use console::{Input, Output};
 use file::Session;

@@ -1,11 +1,13 @@
 // The words of a text, and what a word can stand for: a name of the table, or a number.
+#![tactic(auto)]
+
 ghost use Rattle.std.specs.Prelude.{◌≡◌, ◌≤◌};
 ghost use Rattle.words.specs.Scan.{stops_at, ahead_of, up_to, from, first_word, after_word};
 ghost use Rattle.words.specs.Numbers.{digit_of, number_from, number_of};
 ghost use Rattle.words.specs.Names.{packed, index_of, row_of};
 
 // What a scan stops at.
-#[derive(Drop)]
+#[derive(Clone, Copy)]
 pub enum Stop {
     LineEnd,
     Comment,
@@ -13,7 +15,7 @@ pub enum Stop {
     Ink,
 }
 
-#[derive(Drop)]
+#[derive(Clone, Copy)]
 pub enum Number {
     Is(u64),
     Not,

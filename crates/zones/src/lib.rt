@@ -1,4 +1,6 @@
 // Where an address lies: a constant for each of the 95 words of 16 addresses.
+#![tactic(auto)]
+
 ghost use Rattle.std.specs.Prelude.{◌*◌, ◌≡◌};
 ghost use Rattle.rules.specs.Zones.{zone};
 

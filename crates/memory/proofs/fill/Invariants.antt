@@ -1,0 +1,11 @@
+use Prim.Native.Nat.{◌-◌, ◌≤◌}
+use mathlib.Core.Path.{◌≡◌}
+use mathlib.Core.List.{◌++◌}
+use lib.ListN.{length, drop, replicate}
+use Rattle.memory.proofs.fill.Given as goal
+
+abbrev pub invariant-loop-i : goal.invariant-loop-i
+invariant-loop-i l = (l.part ≡ replicate l.i l.v ++ drop l.i l.initial.part) × (l.i ≤ length l.initial.part) × (length l.part ≡ length l.initial.part)
+
+abbrev pub decreases-loop-i : goal.decreases-loop-i
+decreases-loop-i l = length l.initial.part - l.i

@@ -1,0 +1,45 @@
+use mathlib.Core.Path.{refl}
+use native.Mathlib.Omega.{arith}
+use borrow.Author.Tests.{le-leb, lt-leb}
+use Rattle.words.proofs.Scans.{begun, number_scans, at_end, at_stop, one_more}
+use Rattle.words.proofs.numeral_from.Goals as goal
+
+pub loop-i-init : goal.loop-i-init
+loop-i-init c = begun
+
+pub bounds-w-i : goal.bounds-w-i
+bounds-w-i c = omega arith
+
+pub overflow_cast-d : goal.overflow_cast-d
+overflow_cast-d c = omega arith
+
+pub returns-then-base-d : goal.returns-then-base-d
+returns-then-base-d c =
+    at_stop (number_scans _) c.loop-i.invariant c.loop-i-test.true
+    (rw (← c.digit-d.ensures.0, le-leb _ _ c.if-base-d.true) refl)
+
+pub returns-then-value-ge-LIMIT : goal.returns-then-value-ge-LIMIT
+returns-then-value-ge-LIMIT c =
+    at_stop (number_scans _) c.loop-i.invariant c.loop-i-test.true
+    (rw (← c.digit-d.ensures.0, lt-leb _ _ c.if-base-d.false, le-leb _ _ c.if-value-ge-LIMIT.true) refl)
+
+pub overflow_mul-value : goal.overflow_mul-value
+overflow_mul-value c = omega (arith, scaled c)
+
+pub overflow_add-value : goal.overflow_add-value
+overflow_add-value c = omega (arith, scaled c)
+
+pub overflow_add-i : goal.overflow_add-i
+overflow_add-i c = omega arith
+
+pub loop-i-smaller : goal.loop-i-smaller
+loop-i-smaller c = omega arith
+
+pub loop-i-preserved : goal.loop-i-preserved
+loop-i-preserved c =
+    rw c.digit-d.ensures.0
+    (one_more (number_scans _) c.loop-i.invariant c.loop-i-test.true
+    (rw (← c.digit-d.ensures.0, lt-leb _ _ c.if-base-d.false, lt-leb _ _ c.if-value-ge-LIMIT.false) refl))
+
+pub returns : goal.returns
+returns c = at_end (number_scans _) c.loop-i.invariant c.loop-i-test.false

@@ -1,0 +1,35 @@
+use native.Mathlib.Omega.{arith}
+use borrow.Author.Tests.{le-leb, lt-leb}
+use Rattle.words.proofs.Scans.{begun, packed_scans, at_end, at_stop, one_more}
+use Rattle.words.proofs.pack.Goals as goal
+
+pub loop-i-init : goal.loop-i-init
+loop-i-init c = begun
+
+pub returns-then-value-ge-FULL : goal.returns-then-value-ge-FULL
+returns-then-value-ge-FULL c = at_stop packed_scans c.loop-i.invariant c.loop-i-test.true (le-leb _ _ c.if-value-ge-FULL.true)
+
+pub overflow_mul-value : goal.overflow_mul-value
+overflow_mul-value c = omega arith
+
+pub bounds-w-i : goal.bounds-w-i
+bounds-w-i c = omega arith
+
+pub overflow_cast-value : goal.overflow_cast-value
+overflow_cast-value c = omega (arith, c.shared_slice_known-1.given c.loop-i.i)
+
+pub overflow_add-value : goal.overflow_add-value
+overflow_add-value c = omega (arith, c.shared_slice_known-1.given c.loop-i.i)
+
+pub overflow_add-i : goal.overflow_add-i
+overflow_add-i c = omega arith
+
+pub loop-i-smaller : goal.loop-i-smaller
+loop-i-smaller c = omega arith
+
+pub loop-i-preserved : goal.loop-i-preserved
+loop-i-preserved c =
+    one_more packed_scans c.loop-i.invariant c.loop-i-test.true (lt-leb _ _ c.if-value-ge-FULL.false)
+
+pub returns : goal.returns
+returns c = at_end packed_scans c.loop-i.invariant c.loop-i-test.false
