@@ -6,7 +6,7 @@ use Rattle.rules.specs.Demands.{HiddenBeforeOpening, HiddenInARun, ShutForGood, 
 use Rattle.theorems.proofs.Stopping as Stopping
 use Rattle.theorems.proofs.Soundness as Soundness
 use Rattle.theorems.proofs.Opening as Opening
-use Rattle.theorems.proofs.Hidden as Hidden
+use Rattle.theorems.proofs.HiddenZones as HiddenZones
 use Rattle.theorems.proofs.Shut as Shut
 use Rattle.theorems.proofs.StepExamples as Steps
 use Rattle.theorems.proofs.OpeningExamples as Openings
@@ -55,13 +55,13 @@ room_for_229 = Openings.room_for_229
 -- Demand 3.
 
 pub hidden_before_opening : HiddenBeforeOpening
-hidden_before_opening = Hidden.hidden_before_opening
+hidden_before_opening = HiddenZones.hidden_before_opening
 
 pub told_apart_by_opening : Cards.ToldApartByOpening
 told_apart_by_opening = Cards.told_apart_by_opening
 
 pub hidden_in_a_run : HiddenInARun
-hidden_in_a_run = Hidden.hidden_in_a_run
+hidden_in_a_run = HiddenZones.hidden_in_a_run
 
 pub told_apart_in_a_run : Cards.ToldApartInARun
 told_apart_in_a_run = Cards.told_apart_in_a_run

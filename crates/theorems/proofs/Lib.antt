@@ -15,7 +15,7 @@ pub mod ZoneCases
 pub mod Mild
 pub mod Shut
 pub mod AlikeCards
-pub mod Hidden
+pub mod HiddenZones
 pub mod Examples
 pub mod StepExamples
 pub mod Missing

@@ -7,6 +7,7 @@ ghost use Rattle.rules.specs.Zones.{zone};
 use rules::Zone;
 
 // The zone of a word's first address. An arm for each word: so the constants stand in read-only data, as no array's would.
+#[tactic(auto, using(crate::proofs::Words::of_arm), unfolding(rules::specs::Zones::zone, rules::specs::Zones::between))]
 fn of_word(word: u32) -> Zone
     ensures { result ≡ zone (16 * word) }
 {
