@@ -33,3 +33,11 @@ loop-sent-smaller c = omega arith
 
 pub slice_bounds-put-end-2 : goal.slice_bounds-put-end-2
 slice_bounds-put-end-2 c = refl
+
+-- After the last bit I/O 1 is left.
+pub returns : goal.returns
+unfolding show
+returns c =
+    let at = c.loop-sent in
+    let e : c.args.width - at.sent ≡ 0 = omega arith in
+    ended (rw e at at.invariant.0) (rw c.idle.ensures.value at c.put.ensures)
