@@ -26,5 +26,5 @@ steps_determined file room r r' p q = (determined p.bytes q.bytes, λ i. (block 
     block : r.ref_ptr.0 ≡ r'.ref_ptr.0
     block = determined p.block q.block
 
-    offset : r.ptr.1 ≡ r'.ptr.1
+    offset : r.ref_ptr.1 ≡ r'.ref_ptr.1
     offset = determined p.offset q.offset
