@@ -21,5 +21,5 @@ returns c =
     let left-fits : left.result < 2 ^ 64 = omega (arith, left.type_inv) in
     let lines-told : Made (four_lines ran.result.done args.given ran.result.refusal _ _) _ _ _ = lines.ensures in
     let made = rw (left.ensures, text_of _ _ _ _ args.given f) at lines-told in
-    let short = not_long _ _ _ _ _ done-fits c.ranges.given.fits refusal-fits left-fits ran.auto.1.1.1.1.0 in
-    (made, (f.memory, never_small short lines.ensures))
+    let short = not_long _ _ _ _ _ done-fits c.ranges.given.fits refusal-fits left-fits ran.auto.answers in
+    record { text = made; memory = f.memory; enough = never_small short lines.ensures }

@@ -10,13 +10,15 @@ unfolding refusal_in_session
 returns-in-Refused c =
     let told = c.in-Refused.is in
     let opened = c.open_session.ensures in
-    rw (refused_text _ _ (sym opened.answer ∙ told)) at c.bad.ensures
+    record { text = rw (refused_text _ _ (sym opened.answer ∙ told)) at c.bad.ensures }
 
 pub returns-in-Parts : goal.returns-in-Parts
 unfolding refusal_in_session in_memory
 returns-in-Parts c =
-    let parts = c.fuses-1.given in
+    let told = c.in-Parts.is in
     let opened = c.open_session.ensures in
-    let memory = rw parts.1 at opened.bytes in
-    let lines : Made (run_text _ parts.0.0 _ _) _ _ _ = c.report.ensures.0 in
-    rw (memory, c.step_section-section.ensures.bytes, opened_text _ _ _ (sym opened.answer ∙ parts.1)) at lines
+    let memory = rw told at opened.bytes in
+    let lines : Made (run_text _ c.in-Parts.fuses _ _) _ _ _ = c.report.ensures.text in
+    record {
+      text = rw (memory, c.step_section-section.ensures.bytes, opened_text _ _ _ (sym opened.answer ∙ told)) at lines
+    }
