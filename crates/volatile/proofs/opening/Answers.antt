@@ -1,7 +1,6 @@
 use native.Mathlib.Omega.{arith}
 use mathlib.Core.Bool.{and-false}
 use Rattle.rules.specs.Zones.{between}
-use borrow.Author.Tests.{not-true, not-false}
 use Rattle.volatile.specs.Packed.{opening_flags}
 use Rattle.volatile.proofs.Between.{within, under, over}
 use Rattle.volatile.proofs.opening.Goals as goal

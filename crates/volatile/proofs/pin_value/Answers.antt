@@ -1,4 +1,3 @@
-use borrow.Author.Tests.{not-true, not-false}
 use Rattle.rules.specs.Steps.{pin_value}
 use Rattle.volatile.proofs.pin_value.Goals as goal
 

@@ -1,4 +1,3 @@
-use borrow.Author.Tests.{not-true, not-false}
 use Rattle.rules.specs.Steps.{pin_value}
 use Rattle.volatile.proofs.Volatile.pin.Goals as goal
 
