@@ -1,5 +1,5 @@
 -- What each call of the maker and of the openers promises for every input: its numbers, and what it leaves of all that is lent. A step
--- and a run promise what the card's do (`StepTold`, `RunAnswered` in `card`'s `Contracts`).
+-- and a run promise what the card's do (`StepTold`, `RunAnswered` in `card`'s `Calls`).
 use Rattle.std.specs.Prelude.{ℕ, ◌≡◌, List, length, take, drop}
 use Rattle.maker.specs.Act.{made, in_buffer}
 use Rattle.file.specs.Opening.{refusal_in_card, refusal_in_session, card_answer, session_answer, in_memory, handed_steps}

@@ -1,9 +1,6 @@
-use borrow.Author.Tests.{not-true, not-false}
-use mathlib.Core.Path.{◌≡◌, sym, ◌∙◌}
-use mathlib.Core.Bool.{true, false, cond, not, beq}
-use Rattle.memory.specs.Image.{digit}
+use mathlib.Core.Path.{sym, ◌∙◌}
 use Rattle.rules.specs.Lines.{high, place}
-use Rattle.rules.specs.Reason.{missing, first_missing, reason}
+use Rattle.rules.specs.Reason.{reason}
 use Rattle.volatile.specs.Packed.{unpacked}
 use Rattle.looks.proofs.reason_of.Goals as goal
 
