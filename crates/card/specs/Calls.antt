@@ -2,7 +2,6 @@
 use Rattle.std.specs.Prelude.{ℕ, ◌≡◌, cond, List, [], eqb, length}
 use Rattle.rules.specs.declared.Answer.{Answer}
 use Rattle.rules.specs.declared.Answer.TheVariants.{Refused}
-use Rattle.rules.specs.Steps.{pin}
 use Rattle.rules.specs.Card.{refusal_in, pin_in, stepped, answered, run, answers_in}
 use Rattle.volatile.specs.Packed.{packed, Given, card_of, handed_back}
 use Rattle.refusals.specs.Before.{given_refusal, given_run_refusal}

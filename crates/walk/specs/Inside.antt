@@ -2,7 +2,6 @@
 use Rattle.std.specs.Prelude.{ℕ, ◌+◌, ◌≤◌, ◌<◌, ◌≡◌, true, cond, length}
 use Rattle.std.specs.Int.Bits.{bit_and}
 use Rattle.memory.specs.Image.{bytes, digit}
-use Rattle.rules.specs.Halves as Halves
 use Rattle.rules.specs.Steps.{clk_rises}
 use Rattle.volatile.specs.declared.Volatile.{Volatile}
 use Rattle.volatile.specs.Packed.{packed, unpacked, Given, gone_on}

@@ -1,9 +1,8 @@
-use mathlib.Core.Path.{◌∙◌}
 use native.Mathlib.Omega.{arith}
 use native.Mathlib.Nat.{lt_of_lt_of_le}
 use lib.Dec.{lit≤}
 use Rattle.rules.specs.Steps.{pin}
-use Rattle.volatile.specs.Packed.{unpacked, given}
+use Rattle.volatile.specs.Packed.{unpacked}
 use Rattle.card.proofs.Loop.{starts, same_image, ends, stops, again}
 use Rattle.card.proofs.drive.Goals as goal
 

@@ -1,5 +1,4 @@
 use mathlib.Core.Path.{sym, ◌∙◌}
-use borrow.Author.Tests.{not-true, not-false}
 use Rattle.rules.specs.Lines.{CLK, high, place, mask}
 use Rattle.edge_laws.proofs.ByLine.{turned, clk_unpowered, clk_unpowered_kept, clk_rises_lem, clk_rises_kept, keeps}
 use Rattle.card.proofs.edges.clock.Goals as goal

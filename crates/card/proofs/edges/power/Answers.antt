@@ -1,5 +1,4 @@
 use mathlib.Core.Path.{sym, ◌∙◌}
-use borrow.Author.Tests.{not-true, not-false}
 use Rattle.rules.specs.Lines.{VCC, high, place, mask}
 use Rattle.edge_laws.proofs.ByLine.{turned, vcc_off, vcc_refused, vcc_rises, reads}
 use Rattle.card.proofs.edges.power.Goals as goal
