@@ -1,9 +1,9 @@
 -- What a read's answer comes to, and what saying nothing keeps.
-use Rattle.std.proofs.Common.{◌≡◌, ℕ, ◌+◌, ◌-◌, ◌<◌, ◌≤◌, Bool, true, false, cond, List, length, take, drop, refl, sym, ◌∙◌, arith, length-take-le, Ok, Err, Result}
+use Rattle.std.proofs.Common.{◌≡◌, ℕ, ◌≤◌, Bool, true, false, cond, List, length, refl, sym, ◌∙◌, arith, length-take-le, Ok, Err, Result}
 use Prim.Native.Nat.{min}
 use lib.Dec.{eqb}
 use borrow.Author.Tests.{eq-eqb, ne_eqb, eqb-false}
-use Rattle.console.specs.declared.Read.TheVariants.{Failed, End, More}
+use Rattle.console.specs.declared.Read.TheVariants.{End, More}
 use Rattle.console.specs.declared.Output.{Output}
 use Rattle.console.specs.declared.Output.TheVariants.{Open, Lost, Stopped}
 use Rattle.std.specs.Counts.{IsPrefixLen}

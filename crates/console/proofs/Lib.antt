@@ -1,1 +1,3 @@
 mod Laws
+mod Known
+mod Line

@@ -1,6 +1,11 @@
 -- The line on standard error.
-use Rattle.std.specs.Prelude.{ℕ, List, [], ◌∷◌, ◌++◌}
+use Rattle.std.specs.Prelude.{ℕ, List, [], ◌∷◌, ◌++◌, take, Option}
+use Rattle.std.specs.Io.KnownBytes.{Keeps, Appends}
 use Rattle.report.specs.Lines.{newline}
+use Rattle.console.specs.declared.Input.{Input}
+use Rattle.console.specs.declared.Input.TheVariants.{Bytes, Unreadable}
+use Rattle.console.specs.declared.Output.{Output}
+use Rattle.console.specs.declared.Output.TheVariants.{Open, Lost, Stopped}
 
 -- `: `
 abbrev pub colon : List ℕ
@@ -9,3 +14,34 @@ colon = 58 ∷ 32 ∷ []
 -- `PROGRAM: what which`
 unfoldable pub told_line : List ℕ → List ℕ → List ℕ → List ℕ
 told_line program what which = program ++ (colon ++ (what ++ (which ++ newline)))
+
+-- Of the line as much is written as standard error took, and nothing else.
+abbrev pub Told : Option (List ℕ) → Option (List ℕ) → List ℕ → Type 0
+Told before after line = (n : ℕ) × Appends before after (take n line)
+
+-- The program told what fails, in one line.
+abbrev pub TellsWhat : Option (List ℕ) → Option (List ℕ) → List ℕ → Type 0
+TellsWhat before after program = (what : List ℕ) × Told before after (told_line program what [])
+
+-- An input that cannot be read is told, and no other.
+abbrev pub InputTold : Input → Option (List ℕ) → Option (List ℕ) → List ℕ → Type 0
+InputTold (Bytes n) before after program = Keeps before after
+InputTold Unreadable before after program = TellsWhat before after program
+
+-- A program that stops at its start tells why.
+abbrev pub StartTold : Output → Option (List ℕ) → Option (List ℕ) → List ℕ → Type 0
+StartTold Open before after program = Keeps before after
+StartTold Lost before after program = ⊥
+StartTold Stopped before after program = TellsWhat before after program
+
+-- Why a program stops is told unless it stopped before or its output is lost.
+abbrev pub StopTold : Output → Option (List ℕ) → Option (List ℕ) → List ℕ → Type 0
+StopTold Open before after line = Told before after line
+StopTold Lost before after line = Keeps before after
+StopTold Stopped before after line = Keeps before after
+
+-- A loss is told at the end, and nothing else.
+abbrev pub EndTold : Output → Option (List ℕ) → Option (List ℕ) → List ℕ → Type 0
+EndTold Open before after program = Keeps before after
+EndTold Lost before after program = TellsWhat before after program
+EndTold Stopped before after program = Keeps before after

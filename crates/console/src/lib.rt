@@ -3,8 +3,9 @@
 
 ghost use Rattle.std.specs.Prelude.{◌≡◌, length};
 ghost use Rattle.memory.specs.Buffer.{Put};
-ghost use Rattle.console.specs.Told.{told_line};
-ghost use Rattle.console.specs.Ends.{outcome, Part, Taken, NotLost, Said, stopped, ended};
+ghost use Rattle.decimal.specs.Decimal.{decimal};
+ghost use Rattle.console.specs.Told.{told_line, Told, InputTold, StartTold, StopTold, EndTold};
+ghost use Rattle.console.specs.Ends.{outcome, Part, Moved, Taken, Consumed, NotLost, Said, AsFarAs, Written, stopped, ended};
 
 use std::env::FillError;
 use std::io;
@@ -44,11 +45,32 @@ fn put_told(out: &mut [u8], program: &[u8], what: &[u8], which: &[u8]) -> usize
     memory::put(out, after_which, b"\n")
 }
 
+// Writes the whole text. Or a write failed or took nothing, and a front of it is written.
+fn write_whole<W: io::Write>(to: &mut W, text: &[u8]) -> bool
+    ensures { AsFarAs result (W.contents to.old) (W.contents to.new) text.now }
+{
+    let mut done = 0;
+    while done < text.len() {
+        match to.write(&text[done..]) {
+            Ok(n) => {
+                if n == 0 {
+                    return false;
+                }
+                done += n;
+            }
+            Err(_) => return false,
+        }
+    }
+    true
+}
+
 // In one write, so that the lines of two programs don't mix. A line over 80 bytes is cut.
-fn tell<E: io::Write>(errors: &mut E, program: &[u8], what: &[u8], which: &[u8]) {
+fn tell<E: io::Write>(errors: &mut E, program: &[u8], what: &[u8], which: &[u8])
+    ensures { Told (E.contents errors.old) (E.contents errors.new) (told_line program.now what.now which.now) }
+{
     let mut line = [0u8; 80];
     let n = put_told(&mut line, program, what, which);
-    let _ = errors.write_all(&line[..n]);
+    write_whole(errors, &line[..n]);
 }
 
 fn outcome_of(got: io::Result<usize>, into: &[u8]) -> Read
@@ -65,7 +87,8 @@ fn outcome_of(got: io::Result<usize>, into: &[u8]) -> Read
 }
 
 fn read_once<R: io::Read>(from: &mut R, into: &mut [u8]) -> Read
-    ensures { Part result (length into.old) }
+    ensures part { Part result (length into.old) }
+    ensures moved { Moved result (R.remaining from.old) (R.remaining from.new) into.new }
 {
     let got = from.read(into);
     outcome_of(got, into)
@@ -73,7 +96,8 @@ fn read_once<R: io::Read>(from: &mut R, into: &mut [u8]) -> Read
 
 // Reads until the buffer is full or the input ends.
 pub fn read_full<R: io::Read>(from: &mut R, into: &mut [u8]) -> Input
-    ensures { Taken result into.new }
+    ensures taken { Taken result into.new }
+    ensures consumed { Consumed result (R.remaining from.old) (R.remaining from.new) into.new }
 {
     let mut done = 0;
     while done < into.len() {
@@ -93,7 +117,9 @@ pub fn read_input<R: io::Read, E: io::Write>(
     program: &[u8],
     into: &mut [u8],
 ) -> Input
-    ensures { Taken result into.new }
+    ensures taken { Taken result into.new }
+    ensures consumed { Consumed result (R.remaining from.old) (R.remaining from.new) into.new }
+    ensures told { InputTold result (E.contents errors.old) (E.contents errors.new) program.now }
 {
     let read = read_full(from, into);
     if let Input::Unreadable = read {
@@ -113,7 +139,8 @@ fn has_argument<R: Env>(rt: &R) -> bool {
 
 // The output of a program, which takes no arguments.
 pub fn start<R: Env, E: io::Write>(rt: &R, errors: &mut E, program: &[u8]) -> Output
-    ensures { NotLost result }
+    ensures not_lost { NotLost result }
+    ensures told { StartTold result (E.contents errors.old) (E.contents errors.new) program.now }
 {
     if has_argument(rt) {
         tell(errors, program, b"takes no arguments", b"");
@@ -124,19 +151,22 @@ pub fn start<R: Env, E: io::Write>(rt: &R, errors: &mut E, program: &[u8]) -> Ou
 
 impl Output {
     pub fn say<W: io::Write>(self, to: &mut W, text: &[u8]) -> Output
-        ensures { Said self result }
+        ensures said { Said self result }
+        ensures written { Written self result (W.contents to.old) (W.contents to.new) text.now }
     {
         let Output::Open = self else {
             return self;
         };
-        match to.write_all(text) {
-            Ok(()) => Output::Open,
-            Err(_) => Output::Lost,
+        if write_whole(to, text) {
+            Output::Open
+        } else {
+            Output::Lost
         }
     }
 
     pub fn number<W: io::Write>(self, to: &mut W, n: u64) -> Output
-        ensures { Said self result }
+        ensures said { Said self result }
+        ensures written { Written self result (W.contents to.old) (W.contents to.new) (decimal n) }
     {
         let mut digits = [0u8; 20];
         let k = decimal::put_decimal(&mut digits, 0, n as usize);
@@ -151,7 +181,8 @@ impl Output {
         what: &[u8],
         which: &[u8],
     ) -> Output
-        ensures { result ≡ stopped self }
+        ensures state { result ≡ stopped self }
+        ensures told { StopTold self (E.contents errors.old) (E.contents errors.new) (told_line program.now what.now which.now) }
     {
         match self {
             Output::Open => {
@@ -165,7 +196,8 @@ impl Output {
 
     // Tells of an output that is lost, once.
     pub fn end<E: io::Write>(self, errors: &mut E, program: &[u8]) -> Output
-        ensures { result ≡ ended self }
+        ensures state { result ≡ ended self }
+        ensures told { EndTold self (E.contents errors.old) (E.contents errors.new) program.now }
     {
         match self {
             Output::Open => Output::Open,

@@ -1,14 +1,14 @@
 use Rattle.console.specs.Ends.{stopped}
 use Rattle.console.proofs.Output.stop.Goals as goal
 
-pub returns-in-Open : goal.returns-in-Open
+pub returns-in-Open-clause-state : goal.returns-in-Open-clause-state
 unfolding stopped
-returns-in-Open g c = rw c.in-Open.is
+returns-in-Open-clause-state g c = rw c.in-Open.is
 
-pub returns-in-Lost : goal.returns-in-Lost
+pub returns-in-Lost-clause-state : goal.returns-in-Lost-clause-state
 unfolding stopped
-returns-in-Lost g c = rw c.in-Lost.is
+returns-in-Lost-clause-state g c = rw c.in-Lost.is
 
-pub returns-in-Stopped : goal.returns-in-Stopped
+pub returns-in-Stopped-clause-state : goal.returns-in-Stopped-clause-state
 unfolding stopped
-returns-in-Stopped g c = rw c.in-Stopped.is
+returns-in-Stopped-clause-state g c = rw c.in-Stopped.is
