@@ -86,6 +86,13 @@ def declared():
     return names
 
 
+def aliases():
+    """The names that an import gives."""
+    for path, how in files():
+        if how in (antt, rust):
+            yield from re.findall(r"\bas ([a-z]\w*[A-Z]\w*)\b", read(path))
+
+
 def table():
     rows = {}
     for name, is_type in declared().items():
@@ -95,6 +102,7 @@ def table():
         if new != name:
             rows[name] = new
     rows.update(SEVERAL)
+    rows.update({name: snake(name) for name in aliases()})
     taken = {new for old, new in rows.items() if "-" not in old}
     # "A lemma that would have its function's name gets `_lem`."
     return {old: new + "_lem" if "-" in old and new in taken else new for old, new in rows.items()}
@@ -206,4 +214,5 @@ def main():
             os.rename(f"crates/{of}/specs/{old}.antt", f"crates/{of}/specs/{new}.antt")
 
 
-main()
+if __name__ == "__main__":
+    main()

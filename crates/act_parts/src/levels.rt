@@ -1,8 +1,8 @@
 // The line levels of the maker's steps, and the short lists of them that the acts are made of.
 ghost use Rattle.std.specs.Prelude.{◌≤◌, ◌≡◌};
-ghost use Rattle.rules.specs.Maker.{base as base_of, io as ioOf, idle as idleOf, program_with};
-ghost use Rattle.rules.specs.Maker.{reset as resetSteps, program as programSteps, blow as blowSteps};
-ghost use Rattle.act_parts.specs.Parts.{pulse as pulseOf, shown_bit};
+ghost use Rattle.rules.specs.Maker.{base as base_of, io as io_of, idle as idle_of, program_with};
+ghost use Rattle.rules.specs.Maker.{reset as reset_steps, program as program_steps, blow as blow_steps};
+ghost use Rattle.act_parts.specs.Parts.{pulse as pulse_of, shown_bit};
 
 const VCC: u8 = 1;
 
@@ -24,14 +24,14 @@ fn base(fus: bool) -> u8
 }
 
 fn io(b: bool) -> u8
-    ensures value { result ≡ ioOf b }
+    ensures value { result ≡ io_of b }
     ensures upper_bound { result ≤ 16 }
 {
     if b { IO } else { 0 }
 }
 
 pub(crate) fn idle(fus: bool) -> u8
-    ensures value { result ≡ idleOf fus }
+    ensures value { result ≡ idle_of fus }
     ensures upper_bound { result ≤ 49 }
 {
     base(fus) + IO
@@ -40,14 +40,14 @@ pub(crate) fn idle(fus: bool) -> u8
 // A line up, down: reset's RST, and CLK at each address of a walk.
 pub(crate) fn pulse(line: u8, fus: bool) -> [u8; 2]
     requires { line ≤ 4 }
-    ensures { result ≡ pulseOf line fus }
+    ensures { result ≡ pulse_of line fus }
 {
     let idle = idle(fus);
     [idle + line, idle]
 }
 
 pub fn reset(fus: bool) -> [u8; 2]
-    ensures { result ≡ resetSteps fus }
+    ensures { result ≡ reset_steps fus }
 {
     pulse(RST, fus)
 }
@@ -77,13 +77,13 @@ fn program_with(extra: u8, fus: bool, d: bool) -> [u8; 6]
 }
 
 pub fn program(fus: bool, d: bool) -> [u8; 6]
-    ensures { result ≡ programSteps fus d }
+    ensures { result ≡ program_steps fus d }
 {
     program_with(0, fus, d)
 }
 
 pub fn blow(fus: bool) -> [u8; 8]
-    ensures { result ≡ blowSteps fus }
+    ensures { result ≡ blow_steps fus }
 {
     let idle = idle(fus);
     let p = program_with(RST, fus, false);

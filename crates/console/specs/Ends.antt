@@ -1,6 +1,6 @@
 -- A program's input and output, as far as a contract can speak of them: it cannot say which bytes are read or written.
-use Rattle.std.specs.Prelude.{ℕ, ◌≤◌, ◌<◌, min, ◌≡◌, cond, List, eqb, ℤ, pos, negsuc}
-use Rattle.io.specs.Counts.{IsPrefixLen}
+use Rattle.std.specs.Prelude.{ℕ, ◌≤◌, ◌<◌, min, ◌≡◌, cond, List, eqb, Result, Ok, Err}
+use Rattle.std.specs.Counts.{IsPrefixLen}
 use Rattle.console.specs.declared.Read.{Read}
 use Rattle.console.specs.declared.Read.TheVariants.{Failed, End, More}
 use Rattle.console.specs.declared.Input.{Input}
@@ -8,10 +8,10 @@ use Rattle.console.specs.declared.Input.TheVariants.{Bytes, Unreadable}
 use Rattle.console.specs.declared.Output.{Output}
 use Rattle.console.specs.declared.Output.TheVariants.{Open, Lost, Stopped}
 
--- What a read's answer means, with so much room: below 0 it failed, 0 is the end of the input.
-unfoldable pub outcome : ℤ → ℕ → Read
-outcome (negsuc k) room = Failed
-outcome (pos k) room = cond (eqb (min k room) 0) End (More (min k room))
+-- What a read's answer means, with so much room: an error is a read that failed, 0 is the end of the input.
+unfoldable pub outcome : {E : Type 0} → Result ℕ E → ℕ → Read
+outcome (Err e) room = Failed
+outcome (Ok k) room = cond (eqb (min k room) 0) End (More (min k room))
 
 -- More is at least a byte, and no more than there is room for.
 abbrev pub Part : Read → ℕ → Type 0

@@ -6,7 +6,9 @@ ghost use Rattle.memory.specs.Buffer.{Put};
 ghost use Rattle.console.specs.Told.{told_line};
 ghost use Rattle.console.specs.Ends.{outcome, Part, Taken, NotLost, Said, stopped, ended};
 
-use libc::{STDERR_FILENO, STDIN_FILENO, STDOUT_FILENO};
+use std::env::FillError;
+use std::io;
+use std::rt::Env;
 
 // The outcome of one read.
 #[derive(Clone, Copy)]
@@ -43,39 +45,39 @@ fn put_told(out: &mut [u8], program: &[u8], what: &[u8], which: &[u8]) -> usize
 }
 
 // In one write, so that the lines of two programs don't mix. A line over 80 bytes is cut.
-fn tell(program: &[u8], what: &[u8], which: &[u8]) {
+fn tell<E: io::Write>(errors: &mut E, program: &[u8], what: &[u8], which: &[u8]) {
     let mut line = [0u8; 80];
     let n = put_told(&mut line, program, what, which);
-    io::write_all(STDERR_FILENO, &line[..n]);
+    let _ = errors.write_all(&line[..n]);
 }
 
-fn outcome_of(got: isize, into: &[u8]) -> Read
+fn outcome_of(got: io::Result<usize>, into: &[u8]) -> Read
     ensures { result ≡ outcome got (length into.now) }
 {
-    if got < 0 {
+    let Ok(count) = got else {
         return Read::Failed;
-    }
-    let n = io::count(got, into);
+    };
+    let n = count.min(into.len());
     if n == 0 {
         return Read::End;
     }
     Read::More(n)
 }
 
-fn read_once(fd: i32, into: &mut [u8]) -> Read
+fn read_once<R: io::Read>(from: &mut R, into: &mut [u8]) -> Read
     ensures { Part result (length into.old) }
 {
-    let got = libc::read(fd, into);
+    let got = from.read(into);
     outcome_of(got, into)
 }
 
-// Reads until the buffer is full or the input ends, of which io::read_full does not tell a read that failed.
-pub fn read_full(fd: i32, into: &mut [u8]) -> Input
+// Reads until the buffer is full or the input ends.
+pub fn read_full<R: io::Read>(from: &mut R, into: &mut [u8]) -> Input
     ensures { Taken result into.new }
 {
     let mut done = 0;
     while done < into.len() {
-        match read_once(fd, &mut into[done..]) {
+        match read_once(from, &mut into[done..]) {
             Read::Failed => return Input::Unreadable,
             Read::End => return Input::Bytes(done),
             Read::More(n) => done += n,
@@ -85,56 +87,75 @@ pub fn read_full(fd: i32, into: &mut [u8]) -> Input
 }
 
 // Standard input.
-pub fn read_input(program: &[u8], into: &mut [u8]) -> Input
+pub fn read_input<R: io::Read, E: io::Write>(
+    from: &mut R,
+    errors: &mut E,
+    program: &[u8],
+    into: &mut [u8],
+) -> Input
     ensures { Taken result into.new }
 {
-    let read = read_full(STDIN_FILENO, into);
+    let read = read_full(from, into);
     if let Input::Unreadable = read {
-        tell(program, b"standard input cannot be read", b"");
+        tell(errors, program, b"standard input cannot be read", b"");
     }
     read
 }
 
+// Whether the program was given an argument, be it empty. The first is its name.
+fn has_argument<R: Env>(rt: &R) -> bool {
+    let mut start = [0u8; 1];
+    match rt.arg(1, &mut start) {
+        Err(FillError::NotPresent) => false,
+        _ => true,
+    }
+}
+
 // The output of a program, which takes no arguments.
-pub fn start(program: &[u8]) -> Output
+pub fn start<R: Env, E: io::Write>(rt: &R, errors: &mut E, program: &[u8]) -> Output
     ensures { NotLost result }
 {
-    if 1 < os::arg_count() {
-        tell(program, b"takes no arguments", b"");
+    if has_argument(rt) {
+        tell(errors, program, b"takes no arguments", b"");
         return Output::Stopped;
     }
     Output::Open
 }
 
 impl Output {
-    pub fn say(self, text: &[u8]) -> Output
+    pub fn say<W: io::Write>(self, to: &mut W, text: &[u8]) -> Output
         ensures { Said self result }
     {
         let Output::Open = self else {
             return self;
         };
-        if io::write_all(STDOUT_FILENO, text) {
-            Output::Open
-        } else {
-            Output::Lost
+        match to.write_all(text) {
+            Ok(()) => Output::Open,
+            Err(_) => Output::Lost,
         }
     }
 
-    pub fn number(self, n: u64) -> Output
+    pub fn number<W: io::Write>(self, to: &mut W, n: u64) -> Output
         ensures { Said self result }
     {
         let mut digits = [0u8; 20];
-        let k = io::decimal(n, &mut digits);
-        self.say(&digits[..k])
+        let k = decimal::put_decimal(&mut digits, 0, n as usize);
+        self.say(to, &digits[..k])
     }
 
     // Tells why the program stops, unless it stopped before or the output is lost, which `end` tells.
-    pub fn stop(self, program: &[u8], what: &[u8], which: &[u8]) -> Output
+    pub fn stop<E: io::Write>(
+        self,
+        errors: &mut E,
+        program: &[u8],
+        what: &[u8],
+        which: &[u8],
+    ) -> Output
         ensures { result ≡ stopped self }
     {
         match self {
             Output::Open => {
-                tell(program, what, which);
+                tell(errors, program, what, which);
                 Output::Stopped
             }
             Output::Lost => Output::Lost,
@@ -143,13 +164,13 @@ impl Output {
     }
 
     // Tells of an output that is lost, once.
-    pub fn end(self, program: &[u8]) -> Output
+    pub fn end<E: io::Write>(self, errors: &mut E, program: &[u8]) -> Output
         ensures { result ≡ ended self }
     {
         match self {
             Output::Open => Output::Open,
             Output::Lost => {
-                tell(program, b"standard output cannot be written", b"");
+                tell(errors, program, b"standard output cannot be written", b"");
                 Output::Stopped
             }
             Output::Stopped => Output::Stopped,

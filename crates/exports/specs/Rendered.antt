@@ -8,7 +8,7 @@ use Rattle.looks.specs.Flags.{flags_refused, flags_held}
 use Rattle.looks.specs.declared.ReasonAnswer.{ReasonAnswer}
 use Rattle.looks.specs.Reasons.{reason_told, reason_refused}
 use Rattle.maker.specs.declared.Made.{Made}
-use Rattle.maker.specs.Act.{refusal_in as actRefused, count_of}
+use Rattle.maker.specs.Act.{refusal_in as act_refused, count_of}
 use Rattle.rules.specs.File.{steps_at}
 use Rattle.file.specs.declared.CardFile.{CardFile}
 use Rattle.file.specs.declared.Session.{Session}
@@ -46,8 +46,8 @@ is_high x = not (eqb x 0)
 
 -- An act: the count, 0 where refused, and the refusal, 0 if none.
 unfoldable pub made_of : Made → ZhavMade
-unfolding count_of actRefused
-made_of a = record { count = count_of a; refusal = actRefused a }
+unfolding count_of act_refused
+made_of a = record { count = count_of a; refusal = act_refused a }
 
 -- A card file: the fuse byte.
 unfoldable pub card_file_of : CardFile → ZhavCard

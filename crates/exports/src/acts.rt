@@ -1,6 +1,6 @@
 // The step maker's acts. FUS and d are bytes: 0 is low, anything else high.
 ghost use Rattle.std.specs.Prelude.{◌≡◌};
-ghost use Rattle.rules.specs.Maker.{reset as resetSteps, walk as walkSteps, show, program as programSteps, blow as blowSteps, open_card};
+ghost use Rattle.rules.specs.Maker.{reset as reset_steps, walk as walk_steps, show, program as program_steps, blow as blow_steps, open_card};
 ghost use Rattle.rules.specs.Maker.{walk_refusal, open_refusal};
 ghost use Rattle.exports.specs.Rendered.{is_high, made_of};
 ghost use Rattle.exports.specs.Told.{ActTold};
@@ -33,14 +33,14 @@ fn told(made: Made) -> ZhavMade
 
 #[unsafe(no_mangle)]
 pub extern "C" fn zhav_reset(fus: u8, out: &mut [u8]) -> ZhavMade
-    ensures { ActTold 0 (resetSteps (is_high fus)) out.old result out.new }
+    ensures { ActTold 0 (reset_steps (is_high fus)) out.old result out.new }
 {
     told(maker::reset(fus != 0, out))
 }
 
 #[unsafe(no_mangle)]
 pub extern "C" fn zhav_walk(fus: u8, n: usize, out: &mut [u8]) -> ZhavMade
-    ensures { ActTold (walk_refusal n) (walkSteps (is_high fus) n) out.old result out.new }
+    ensures { ActTold (walk_refusal n) (walk_steps (is_high fus) n) out.old result out.new }
 {
     told(maker::walk(fus != 0, n, out))
 }
@@ -61,14 +61,14 @@ pub extern "C" fn zhav_show32(fus: u8, key: u32, out: &mut [u8]) -> ZhavMade
 
 #[unsafe(no_mangle)]
 pub extern "C" fn zhav_program(fus: u8, d: u8, out: &mut [u8]) -> ZhavMade
-    ensures { ActTold 0 (programSteps (is_high fus) (is_high d)) out.old result out.new }
+    ensures { ActTold 0 (program_steps (is_high fus) (is_high d)) out.old result out.new }
 {
     told(maker::program(fus != 0, d != 0, out))
 }
 
 #[unsafe(no_mangle)]
 pub extern "C" fn zhav_blow(fus: u8, out: &mut [u8]) -> ZhavMade
-    ensures { ActTold 0 (blowSteps (is_high fus)) out.old result out.new }
+    ensures { ActTold 0 (blow_steps (is_high fus)) out.old result out.new }
 {
     told(maker::blow(fus != 0, out))
 }

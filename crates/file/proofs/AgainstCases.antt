@@ -1,6 +1,6 @@
 -- 01's cases of the openers, computed from the definitions. Assumes nothing.
 use mathlib.Core.Path.{refl}
-use Rattle.rules.specs.CaseForms.{sample, session as sessionBytes}
+use Rattle.rules.specs.CaseForms.{sample, session as session_bytes}
 use Rattle.file.specs.Opening.{refusal_in_card, refusal_in_session, card_fuses, session_fuses, session_steps}
 use Rattle.file.specs.Opening.{card_answer, session_answer, in_memory, handed_steps, handed_from}
 use Rattle.file.specs.Cases.{buffer, card_with, session_with, lying_at, CardsOpen, SessionsOpen, AnswersTold}
@@ -18,7 +18,7 @@ cards_open = (
 )
 
 pub sessions_open : SessionsOpen
-unfolding buffer card_with session_with sessionBytes sample lying_at refusal_in_session session_answer in_memory handed_steps handed_from
+unfolding buffer card_with session_with session_bytes sample lying_at refusal_in_session session_answer in_memory handed_steps handed_from
 sessions_open = (
   (record { bytes = refl; answer = refl }, record { bytes = refl; block = refl; offset = refl }),
   (record { bytes = refl; answer = refl }, record { bytes = refl; block = refl; offset = refl }),

@@ -2,7 +2,7 @@
 -- from the definitions.
 use Rattle.std.specs.Prelude.{ℕ, ◌+◌, ◌≡◌, List, [], ◌∷◌, ◌++◌, length, take, replicate, set}
 use Rattle.std.specs.Borrow.{Bor}
-use Rattle.rules.specs.CaseForms.{sample, card_file as cardBytes, session as sessionBytes}
+use Rattle.rules.specs.CaseForms.{sample, card_file as card_bytes, session as session_bytes}
 use Rattle.file.specs.declared.CardFile.TheVariants as card
 use Rattle.file.specs.declared.Session.{Session}
 use Rattle.file.specs.declared.Session.TheVariants as session
@@ -15,12 +15,12 @@ buffer = replicate 174 9
 
 -- A card file, and a session of one step, with these fuses.
 unfoldable pub card_with : ℕ → List ℕ
-unfolding cardBytes sample
-card_with fuses = cardBytes sample fuses
+unfolding card_bytes sample
+card_with fuses = card_bytes sample fuses
 
 unfoldable pub session_with : ℕ → List ℕ
-unfolding sessionBytes sample
-session_with fuses = sessionBytes sample fuses (16 ∷ [])
+unfolding session_bytes sample
+session_with fuses = session_bytes sample fuses (16 ∷ [])
 
 -- "Refused: no buffer changes."
 abbrev pub CardRefused : List ℕ → List ℕ → ℕ → Type 0
@@ -53,8 +53,8 @@ SessionRefused file memory k = SessionParts file memory (session.Refused k) memo
 
 abbrev pub SessionsOpen : Type 0
 SessionsOpen =
-    SessionParts (sessionBytes sample 5 (16 ∷ 17 ∷ 21 ∷ [])) buffer (session.Parts 5 3) sample (16 ∷ 17 ∷ 21 ∷ []) 181 ×
-    SessionParts (sessionBytes sample 0 []) buffer (session.Parts 0 0) sample [] 181 ×
+    SessionParts (session_bytes sample 5 (16 ∷ 17 ∷ 21 ∷ [])) buffer (session.Parts 5 3) sample (16 ∷ 17 ∷ 21 ∷ []) 181 ×
+    SessionParts (session_bytes sample 0 []) buffer (session.Parts 0 0) sample [] 181 ×
     SessionRefused (session_with 5) (9 ∷ buffer) 10 ×
     SessionRefused [] buffer 11 ×
     SessionRefused (set (session_with 5) 1 1) buffer 12 ×

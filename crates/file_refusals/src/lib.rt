@@ -2,13 +2,13 @@
 #![tactic(auto)]
 
 ghost use Rattle.std.specs.Prelude.{◌+◌, ◌<◌, ◌≡◌, length};
-ghost use Rattle.rules.specs.File.{count as countAt, parts_refusal, card_refusal, session_refusal};
+ghost use Rattle.rules.specs.File.{count as count_at, parts_refusal, card_refusal, session_refusal};
 
 // "two bytes, low first"
 #[tactic(auto, unfolding(rules::specs::File::count))]
 fn count(file: &[u8], at: usize) -> usize
     requires { at + 1 < length file.now }
-    ensures value { result ≡ countAt file.now at }
+    ensures value { result ≡ count_at file.now at }
     ensures upper_bound { result < 65536 }
 {
     file[at] as usize + 256 * (file[at + 1] as usize)

@@ -2,7 +2,7 @@
 use Rattle.std.specs.Prelude.{ℕ, ◌+◌, ◌≡◌, true, List, [], ◌∷◌, ◌++◌, take, set}
 use Prim.Native.String.{String}
 use Rattle.rules.specs.Maker.{reset, walk, open_card}
-use Rattle.rules.specs.CaseForms.{zero, released, L1, code, sample, session as sessionBytes, ends_in}
+use Rattle.rules.specs.CaseForms.{zero, released, L1, code, sample, session as session_bytes, ends_in}
 use Rattle.report.specs.Cases.{quoted, case_s_memory, case_s_steps, case_s_text}
 use Rattle.fresh_run.specs.FreshRun.{session_text}
 
@@ -11,8 +11,8 @@ Prints input text = session_text input ≡ quoted text
 
 -- A session of one step.
 unfoldable pub one_step_lem : List ℕ
-unfolding sessionBytes sample
-one_step_lem = sessionBytes sample 5 (0 ∷ [])
+unfolding session_bytes sample
+one_step_lem = session_bytes sample 5 (0 ∷ [])
 
 -- Power, the right code and a try with FUS high, and then to bit 81.
 unfoldable pub reads_the_code : List ℕ
@@ -26,14 +26,14 @@ shown answer = 48 + answer
 abbrev pub SessionsPrint : Type 0
 SessionsPrint =
     -- "four lines: steps done and given, refusal (0 if none), the answers without spaces, ones left in bits 96 to 103."
-    Prints (sessionBytes case_s_memory 7 case_s_steps) case_s_text ×
-    Prints (sessionBytes sample 5 []) "done 0 of 0\nrefused 0\n\nleft 8\n" ×
-    Prints (sessionBytes (set sample 12 0x1f) 0 (64 ∷ 0 ∷ [])) "done 0 of 2\nrefused 1\n\nleft 5\n" ×
+    Prints (session_bytes case_s_memory 7 case_s_steps) case_s_text ×
+    Prints (session_bytes sample 5 []) "done 0 of 0\nrefused 0\n\nleft 8\n" ×
+    Prints (session_bytes (set sample 12 0x1f) 0 (64 ∷ 0 ∷ [])) "done 0 of 2\nrefused 1\n\nleft 5\n" ×
     -- The fuses are the session's: with FUS high and SV, bit 81, a 0, is read with ISS unblown alone.
-    (ends_in (session_text (sessionBytes sample 7 reads_the_code)) (shown zero ∷ quoted "\nleft 8\n") ≡ true) ×
-    (ends_in (session_text (sessionBytes sample 3 reads_the_code)) (shown released ∷ quoted "\nleft 8\n") ≡ true) ×
+    (ends_in (session_text (session_bytes sample 7 reads_the_code)) (shown zero ∷ quoted "\nleft 8\n") ≡ true) ×
+    (ends_in (session_text (session_bytes sample 3 reads_the_code)) (shown released ∷ quoted "\nleft 8\n") ≡ true) ×
     -- The ones left are those after the run: a wrong code has spent a try.
-    (ends_in (session_text (sessionBytes sample 7 (32 ∷ 48 ∷ 49 ∷ open_card L1 0xa53d 255))) (quoted "left 7\n") ≡ true) ×
+    (ends_in (session_text (session_bytes sample 7 (32 ∷ 48 ∷ 49 ∷ open_card L1 0xa53d 255))) (quoted "left 7\n") ≡ true) ×
     -- "It prints `bad N` alone": 11 to 17.
     Prints [] "bad 11\n" ×
     Prints (take 178 one_step_lem) "bad 11\n" ×

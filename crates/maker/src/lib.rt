@@ -2,7 +2,7 @@
 #![tactic(auto)]
 
 ghost use Rattle.std.specs.Prelude.{◌+◌, ◌*◌, ◌≤◌, ◌≡◌, cond, eqb, ltb};
-ghost use Rattle.rules.specs.Maker.{reset as resetSteps, walk as walkSteps, show, program as programSteps, blow as blowSteps, open_card};
+ghost use Rattle.rules.specs.Maker.{reset as reset_steps, walk as walk_steps, show, program as program_steps, blow as blow_steps, open_card};
 ghost use Rattle.rules.specs.Maker.{walk_refusal, open_refusal};
 ghost use Rattle.maker.specs.Act.{Acted};
 
@@ -29,14 +29,14 @@ pub fn raw(steps: &[u8], out: &mut [u8]) -> Made
 }
 
 pub fn reset(fus: bool, out: &mut [u8]) -> Made
-    ensures { Acted 0 (resetSteps fus) out.old result out.new }
+    ensures { Acted 0 (reset_steps fus) out.old result out.new }
 {
     let steps = levels::reset(fus);
     raw(&steps, out)
 }
 
 pub fn walk(fus: bool, n: usize, out: &mut [u8]) -> Made
-    ensures { Acted (walk_refusal n) (walkSteps fus n) out.old result out.new }
+    ensures { Acted (walk_refusal n) (walk_steps fus n) out.old result out.new }
 {
     if LAST < n {
         return Made::Refused(21);
@@ -70,14 +70,14 @@ pub fn show32(fus: bool, key: u32, out: &mut [u8]) -> Made
 }
 
 pub fn program(fus: bool, d: bool, out: &mut [u8]) -> Made
-    ensures { Acted 0 (programSteps fus d) out.old result out.new }
+    ensures { Acted 0 (program_steps fus d) out.old result out.new }
 {
     let steps = levels::program(fus, d);
     raw(&steps, out)
 }
 
 pub fn blow(fus: bool, out: &mut [u8]) -> Made
-    ensures { Acted 0 (blowSteps fus) out.old result out.new }
+    ensures { Acted 0 (blow_steps fus) out.old result out.new }
 {
     let steps = levels::blow(fus);
     raw(&steps, out)

@@ -72,6 +72,13 @@ pub record Turn (act : Act) (p : Progress) (image steps : List ℕ) (r : Made) (
   pub within : p.count ≤ length steps
   pub acted : Acted (act_refusal_lem act p image steps) (act_steps act p image steps) (free p steps) r after
 
+pub turn :
+    {act : Act} (p : Progress) (image : List ℕ) {steps after : List ℕ} {lines : ℕ} {r : Made}
+    → length steps ≡ longest → p.count ≤ length steps → lines ≡ present (take p.count steps)
+    → (let attempts = get_or image attempts_at 0 in Acted (refusal_of act lines attempts) (steps_of act lines attempts) (free p steps) r after)
+    → Turn act p image steps r after
+turn p image f w e a = record { full = f; within = w; acted = rw e at a }
+
 module _ {act : Act} {p : Progress} {image steps : List ℕ} {r : Made} {after : List ℕ} (t : Turn act p image steps r after) where
   sofar : length (take p.count steps) ≡ p.count
   sofar = length-take-le p.count steps t.within

@@ -14,6 +14,7 @@ use Rattle.words.specs.declared.Stop.TheVariants.{LineEnd}
 use Rattle.words.proofs.Lines.{rest_of, lines_first}
 use Rattle.words.proofs.Scans.{ahead_le}
 use Rattle.text_lines.specs.Orders.{all_unblown, line_order}
+use Rattle.text_lines.specs.declared.Order.{Order}
 use Rattle.text.specs.Sheet.{sheet_with, follow}
 use Rattle.text.specs.Meaning.{onward, reading}
 use Rattle.text.specs.Progress.{sheet_of, outcome_of, count_of, Came, reading_of, read_count, CameThrough}
@@ -50,6 +51,24 @@ pub record Turned (text image₀ steps₀ : List ℕ) (from line end : ℕ) (r :
   pub came : Came (follow (line_order (take end (lent text from))) (sheet_of p image steps)) r image' steps'
   pub image_kept : length image' ≡ length image
   pub steps_kept : length steps' ≡ length steps
+
+-- The line is read for its order, and the order followed.
+pub turned :
+    {text image₀ steps₀ image steps image' steps' : List ℕ} {p : Progress} {from line end : ℕ} {order : Order} {r : Step}
+    → Underway text image₀ steps₀ image steps p from line → end ≡ ahead_of LineEnd (lent text from)
+    → order ≡ line_order (take end (lent text from)) → Came (follow order (sheet_of p image steps)) r image' steps'
+    → length image' ≡ length image → length steps' ≡ length steps → Turned text image₀ steps₀ from line end r image' steps'
+turned {image = image} {steps = steps} {p = p} u e o k i s =
+    record {
+      image = image;
+      steps = steps;
+      p = p;
+      underway = u;
+      ended = e;
+      came = rw o at k;
+      image_kept = i;
+      steps_kept = s;
+    }
 
 module _ {text image₀ steps₀ : List ℕ} {from line end : ℕ} {r : Step} {image' steps' : List ℕ}
     (t : Turned text image₀ steps₀ from line end r image' steps') where

@@ -1,6 +1,6 @@
 // A session's bytes: "Sections in fixed order, each after its count (two bytes, low first)".
 ghost use Rattle.std.specs.Prelude.{◌+◌, ◌≤◌, ◌≡◌, length};
-ghost use Rattle.memory.specs.Image.{bytes as imageBytes};
+ghost use Rattle.memory.specs.Image.{bytes as image_bytes};
 ghost use Rattle.rules.specs.Refusals.{longest};
 ghost use Rattle.rules.specs.File.{steps_at};
 ghost use Rattle.text.specs.Meaning.{session_of, Written};
@@ -18,7 +18,7 @@ fn put(bytes: &[u8], out: &mut [u8], at: usize) -> usize
 }
 
 pub(crate) fn write(image: &[u8], fuses: u8, steps: &[u8], out: &mut [u8]) -> usize
-    requires image_len { length image.now ≡ imageBytes }
+    requires image_len { length image.now ≡ image_bytes }
     requires steps_len_bound { length steps.now ≤ longest }
     requires steps_in_bounds { steps_at + length steps.now ≤ length out.old }
     ensures { Written (session_of image.now fuses steps.now) out.old result out.new }

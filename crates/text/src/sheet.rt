@@ -3,7 +3,7 @@ ghost use Rattle.std.specs.Prelude.{ℕ, ◌*◌, ◌/◌, ◌%◌, ◌^◌, ◌
 ghost use Rattle.std.proofs.lemmas.List.Edits.{sets};
 ghost use Rattle.memory.specs.Image.{bytes};
 ghost use Rattle.rules.specs.Refusals.{longest};
-ghost use Rattle.text.specs.Sheet.{bytes_of, present as presentOf, driven, follow as followOf};
+ghost use Rattle.text.specs.Sheet.{bytes_of, present as present_of, driven, follow as follow_of};
 ghost use Rattle.text.specs.Progress.{sheet_of, Came, Changed};
 
 use maker::Made;
@@ -78,7 +78,7 @@ fn change(c: Change, fuses: u8, image: &mut [u8]) -> u8
 }
 
 fn arrange(c: Change, p: Progress, image: &mut [u8]) -> Step
-    ensures { (steps : List ℕ) → p.count ≤ length steps → Came (followOf (Order.Image c) (sheet_of p image.old steps)) result image.new steps }
+    ensures { (steps : List ℕ) → p.count ≤ length steps → Came (follow_of (Order.Image c) (sheet_of p image.old steps)) result image.new steps }
 {
     let count = p.count;
     if count == 0 {
@@ -89,7 +89,7 @@ fn arrange(c: Change, p: Progress, image: &mut [u8]) -> Step
 }
 
 fn present(steps: &[u8]) -> u8
-    ensures { result ≡ presentOf steps.now }
+    ensures { result ≡ present_of steps.now }
 {
     let n = steps.len();
     if n == 0 {
@@ -120,7 +120,7 @@ pub(crate) fn follow(order: Order, p: Progress, image: &mut [u8], steps: &mut [u
     requires image_len { length image.old ≡ bytes }
     requires steps_len { length steps.old ≡ longest }
     requires count_in_bounds { p.count ≤ length steps.old }
-    ensures { Came (followOf order (sheet_of p image.old steps.old)) result image.new steps.new }
+    ensures { Came (follow_of order (sheet_of p image.old steps.old)) result image.new steps.new }
 {
     match order {
         Order::Nothing => Step::On(p),

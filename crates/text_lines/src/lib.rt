@@ -2,8 +2,8 @@
 #![tactic(auto)]
 
 ghost use Rattle.std.specs.Prelude.{◌≤◌, ◌≡◌, get_or};
-ghost use Rattle.text_lines.specs.Orders.{word_count, alone as aloneOf, either as either_of, named as named_of, numbered as numberedOf};
-ghost use Rattle.text_lines.specs.ByDigits.{decimal as decimalOf, coded as codedOf};
+ghost use Rattle.text_lines.specs.Orders.{word_count, alone as alone_of, either as either_of, named as named_of, numbered as numbered_of};
+ghost use Rattle.text_lines.specs.ByDigits.{decimal as decimal_of, coded as coded_of};
 ghost use Rattle.text_lines.specs.Orders.{firsts, sizes, bytes_order, byte_order, zone_order, order_of, words_order, line_order};
 
 use words::{Number, Stop};
@@ -106,7 +106,7 @@ const UNFIT: u8 = 72;
 const BEYOND: u8 = 73;
 
 fn alone(verb: usize) -> Order
-    ensures { result ≡ aloneOf verb }
+    ensures { result ≡ alone_of verb }
 {
     if verb == RESET {
         return Order::Drive(Act::Reset);
@@ -184,7 +184,7 @@ fn named(verb: usize, object: usize) -> Order
 
 // `walk`, `lines` and `fuses`.
 fn decimal(verb: usize, w: &[u8]) -> Order
-    ensures { result ≡ decimalOf verb w.now }
+    ensures { result ≡ decimal_of verb w.now }
 {
     let Number::Is(n) = words::numeral(false, w) else {
         return Order::Wrong(UNFIT);
@@ -206,7 +206,7 @@ fn decimal(verb: usize, w: &[u8]) -> Order
 
 // `show` and `open`.
 fn coded(verb: usize, w: &[u8]) -> Order
-    ensures { result ≡ codedOf verb w.now }
+    ensures { result ≡ coded_of verb w.now }
 {
     let Number::Is(n) = words::numeral(true, w) else {
         return Order::Wrong(UNFIT);
@@ -227,7 +227,7 @@ fn coded(verb: usize, w: &[u8]) -> Order
 }
 
 fn numbered(verb: usize, w: &[u8]) -> Order
-    ensures { result ≡ numberedOf verb w.now }
+    ensures { result ≡ numbered_of verb w.now }
 {
     if (verb == WALK) | ((verb == LINES) | (verb == FUSES)) {
         return decimal(verb, w);

@@ -3,7 +3,7 @@
 
 ghost use Rattle.std.specs.Prelude.{◌≤◌, cond, ◌≡◌};
 ghost use Rattle.maker.specs.Act.{Acted};
-ghost use Rattle.text_steps.specs.Steps.{power as powerOf, cut as cut_of, steps_of, maker_refusal, starts_at, refusal_of};
+ghost use Rattle.text_steps.specs.Steps.{power as power_of, cut as cut_of, steps_of, maker_refusal, starts_at, refusal_of};
 
 use maker::Made;
 use text_lines::Act;
@@ -45,7 +45,7 @@ fn levels(mask: u8, high: bool) -> u8
 }
 
 fn power(fus: bool, on: bool, out: &mut [u8]) -> Made
-    ensures { Acted 0 (powerOf fus on) out.old result out.new }
+    ensures { Acted 0 (power_of fus on) out.old result out.new }
 {
     let off = levels(FUS, fus);
     let steps = [off + IO, off + levels(IDLE, on)];

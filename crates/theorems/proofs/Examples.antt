@@ -10,7 +10,7 @@ use lib.ListN.{length, take, replicate}
 use borrow.Author.Tests.{not-true, eqb-true}
 use Rattle.memory.specs.Image.{bit}
 use Rattle.memory.proofs.Laws.{bit_past}
-use Rattle.rules.specs.Halves.{Card, off}
+use Rattle.rules.specs.Halves.{Card}
 use Rattle.rules.specs.Zones.{between}
 use Rattle.rules.specs.Steps.{next}
 use Rattle.rules.specs.Refusals.{refusal, run_refusal}

@@ -15,6 +15,6 @@ pub returns : goal.returns
 unfolding rights table
 returns c =
     let taken : c.if-l1.level ≡ spelled_level c.args.l1 =
-        elim c.if-l1.branch [ then-l1 w ↦ rw w.if-l1.true w.level-is | else-l1 w ↦ rw w.if-l1.false w.level-is ]
+    elim c.if-l1.branch [ then-l1 w ↦ rw w.if-l1.true w.level-is | else-l1 w ↦ rw w.if-l1.false w.level-is ]
     in
     rw (taken, ← c.row_of-row.ensures) (in_level c.args.l1 c.row_of-row.result (omega arith))

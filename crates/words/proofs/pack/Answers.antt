@@ -16,10 +16,10 @@ pub bounds-w-i : goal.bounds-w-i
 bounds-w-i c = omega arith
 
 pub overflow_cast-value : goal.overflow_cast-value
-overflow_cast-value c = omega (arith, c.shared_slice_known-1.given c.loop-i.i)
+overflow_cast-value c = omega (arith, c.type_inv.w c.loop-i.i)
 
 pub overflow_add-value : goal.overflow_add-value
-overflow_add-value c = omega (arith, c.shared_slice_known-1.given c.loop-i.i)
+overflow_add-value c = omega (arith, c.type_inv.w c.loop-i.i)
 
 pub overflow_add-i : goal.overflow_add-i
 overflow_add-i c = omega arith

@@ -1,0 +1,60 @@
+use native.Mathlib.Omega.{arith}
+use mathlib.Core.Path.{sym, ◌∙◌}
+use borrow.Author.Tests.{not-true, not-false}
+use Rattle.rules.specs.Lines.{CLK, high, place, mask}
+use Rattle.volatile.specs.Packed.{unpacked}
+use Rattle.edge_laws.proofs.ByLine.{turned, address_within, keeps}
+use Rattle.edge_laws.proofs.ByLine.{clk_unpowered, clk_unpowered_kept, clk_reset, clk_reset_kept, clk_counts}
+use Rattle.card.proofs.Walks.{walks}
+use Rattle.card.proofs.edges.clock_falls.Goals as goal
+
+pub overflow_add-a : goal.overflow_add-a
+overflow_add-a c = omega (arith, address_within c.requires.ready)
+
+pub returns-then-shows-ne-APART : goal.returns-then-shows-ne-APART
+unfolding high place mask unpacked
+returns-then-shows-ne-APART c =
+    let ready = c.requires.ready in
+    let idle = c.requires.idle in
+    let t = turned ready _ CLK c.requires.line in
+    let down = c.requires.low in
+    let shows = c.shows-shows.ensures in
+    rw (c.known.ensures, c.pin_value.ensures, c.goes_on.ensures, c.read_bit-bit.ensures)
+    (walks ready _ t down idle c.if-n-eq1.true shows (omega (arith, shows.small, c.if-shows-ne-APART.true)))
+
+pub returns-then-not-is_set : goal.returns-then-not-is_set
+unfolding high place mask unpacked
+returns-then-not-is_set c =
+    let ready = c.requires.ready in
+    let idle = c.requires.idle in
+    let t = turned ready _ CLK c.requires.line in
+    let down = c.requires.low in
+    let vcc = sym c.is_set.ensures ∙ c.if-not-is_set.true in
+    rw (c.known-then-not-is_set.ensures, c.follows.ensures) (keeps ready _ (clk_unpowered ready _ t vcc) (clk_unpowered_kept ready _ t vcc))
+
+pub returns-then-is_set : goal.returns-then-is_set
+unfolding high place mask unpacked
+returns-then-is_set c =
+    let ready = c.requires.ready in
+    let idle = c.requires.idle in
+    let t = turned ready _ CLK c.requires.line in
+    let down = c.requires.low in
+    let vcc = sym c.is_set.ensures ∙ c.if-not-is_set.false in
+    let rst = sym c.is_set-2.ensures ∙ c.if-is_set.true in
+    rw (c.known-then-is_set.ensures, c.unlatched.ensures, c.is_set-matched.ensures)
+    (keeps ready _ (clk_reset ready _ t vcc down idle rst) (clk_reset_kept ready _ t vcc down idle rst))
+
+pub clock_counts-requires : goal.clock_counts-requires
+clock_counts-requires c =
+    address_within c.requires.ready
+
+pub returns : goal.returns
+unfolding high place mask unpacked
+returns c =
+    let ready = c.requires.ready in
+    let idle = c.requires.idle in
+    let t = turned ready _ CLK c.requires.line in
+    let down = c.requires.low in
+    let vcc = sym c.is_set.ensures ∙ c.if-not-is_set.false in
+    let rst = sym c.is_set-2.ensures ∙ c.if-is_set.false in
+    rw c.clock_counts.ensures (clk_counts ready _ t vcc down idle rst)

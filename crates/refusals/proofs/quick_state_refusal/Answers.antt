@@ -1,0 +1,7 @@
+use mathlib.Core.Path.{sym, ◌∙◌}
+use Rattle.refusals.proofs.Laws.{none_refused}
+use Rattle.refusals.proofs.quick_state_refusal.Goals as goal
+
+pub returns-then-plainly_sound : goal.returns-then-plainly_sound
+returns-then-plainly_sound c =
+    sym (none_refused _ c.if-image-eq-BYTES.true c.if-fuses-le7.true (sym c.plainly_sound.ensures ∙ c.if-plainly_sound.true))
