@@ -5,6 +5,7 @@ ghost use Rattle.std.specs.Prelude.{◌+◌, ◌<◌, ◌≡◌, length};
 ghost use Rattle.rules.specs.File.{count as count_at, parts_refusal, card_refusal, session_refusal};
 
 // "two bytes, low first"
+#[tactic(auto, unfolding(rules::specs::File::count))]
 fn count(file: &[u8], at: usize) -> usize
     requires { at + 1 < length file.now }
     ensures value { result ≡ count_at file.now at }
@@ -14,6 +15,7 @@ fn count(file: &[u8], at: usize) -> usize
 }
 
 // 10 to 14, 0 if none of them.
+#[tactic(auto, unfolding(rules::specs::File::parts_refusal, rules::specs::File::fuse_section))]
 fn parts_refusal(file: &[u8], room: usize) -> u8
     ensures { result ≡ parts_refusal file.now room 0 }
 {
@@ -32,6 +34,7 @@ fn parts_refusal(file: &[u8], room: usize) -> u8
     if 7 < file[rules::FUSES_AT] { 14 } else { 0 }
 }
 
+#[tactic(auto, using(crate::proofs::Refusals::parts_first), unfolding(rules::specs::File::card_refusal))]
 pub fn card_refusal(file: &[u8], room: usize) -> u8
     ensures { result ≡ card_refusal file.now room }
 {
@@ -46,6 +49,7 @@ pub fn card_refusal(file: &[u8], room: usize) -> u8
     }
 }
 
+#[tactic(auto, using(crate::proofs::Refusals::parts_first), unfolding(rules::specs::File::session_refusal, rules::specs::File::step_count))]
 pub fn session_refusal(file: &[u8], room: usize) -> u8
     ensures { result ≡ session_refusal file.now room }
 {

@@ -1,6 +1,6 @@
 use mathlib.Core.Path.{◌≡◌}
 use native.Mathlib.Omega.{arith}
-use Rattle.memory.proofs.Buffer.{start, further, ended, nothing_put}
+use Rattle.memory.proofs.Buffer.{further, ended, nothing_put}
 use Rattle.rules.specs.Maker.{walk}
 use Rattle.act_parts.proofs.Lists.{walk_first}
 use Rattle.act_parts.proofs.put_walk.Goals as goal
@@ -17,12 +17,3 @@ unfolding walk
 returns c =
     let e : c.loop-left.left ≡ 0 = omega arith in
     ended (rw e at c.loop-left.invariant) (nothing_put _ _)
-
-pub loop-left-init : goal.loop-left-init
-loop-left-init c = start _ _ _
-
-pub overflow_sub-left : goal.overflow_sub-left
-overflow_sub-left c = omega arith
-
-pub loop-left-smaller : goal.loop-left-smaller
-loop-left-smaller c = omega arith

@@ -1,17 +1,9 @@
 use mathlib.Core.Path.{◌∙◌}
-use lib.Count.{leading_le}
 use lib.ListN.{length}
-use native.Mathlib.Omega.{arith}
 use Rattle.memory.proofs.Buffer.{then}
 use Rattle.maker.proofs.Acting.{refused_by_lem, wrote_by}
 use Rattle.maker.proofs.Opening.{open_halves, open_refused}
 use Rattle.maker.proofs.open.Goals as goal
-
-pub overflow_cast-k : goal.overflow_cast-k
-overflow_cast-k c = omega (arith, leading_le 8 c.args.attempts)
-
-pub open_refusal-refused-requires : goal.open_refusal-refused-requires
-open_refusal-refused-requires c = leading_le 8 c.args.attempts
 
 -- The number that the code found is that of the refusals in order.
 pub returns-then-refused-ne0 : goal.returns-then-refused-ne0
