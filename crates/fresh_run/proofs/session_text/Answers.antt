@@ -20,5 +20,5 @@ returns-in-Parts c =
     let memory = rw told at opened.bytes in
     let lines : Made (run_text _ c.in-Parts.fuses _ _) _ _ _ = c.report.ensures.text in
     record {
-      text = rw (memory, c.step_section-section.ensures.bytes, opened_text _ _ _ (sym opened.answer ∙ told)) at lines
+      text = rw (memory, c.step_section-section.ensures.bytes, opened_text _ _ _ (sym opened.answer ∙ told)) at lines;
     }
