@@ -120,22 +120,27 @@ def in_spans(text, rows):
     return SPAN.sub(lambda m: respelled(m.group(0), rows), text)
 
 
-def antt(text, rows):
+QUOTED = re.compile(r'("(?:[^"\\\n]|\\.)*")')
+
+
+def code_and_spans(text, rows, comment):
+    """Code turns but for its quoted text, and of a comment the code spans."""
     out = []
     for line in text.split("\n"):
-        m = re.search(r"(^|\s)--( |$|-)", line)
+        m = re.search(comment, line)
         at = m.start() if m else len(line)
-        out.append(respelled(line[:at], rows) + in_spans(line[at:], rows))
+        parts = QUOTED.split(line[:at])
+        code = "".join(part if k % 2 else respelled(part, rows) for k, part in enumerate(parts))
+        out.append(code + in_spans(line[at:], rows))
     return "\n".join(out)
+
+
+def antt(text, rows):
+    return code_and_spans(text, rows, r"(^|\s)--( |$|-)")
 
 
 def rust(text, rows):
-    out = []
-    for line in text.split("\n"):
-        m = re.search(r"(^|\s)//", line)
-        at = m.start() if m else len(line)
-        out.append(respelled(line[:at], rows) + in_spans(line[at:], rows))
-    return "\n".join(out)
+    return code_and_spans(text, rows, r"(^|\s)//")
 
 
 def edit(text, rows):

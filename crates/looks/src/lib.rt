@@ -92,6 +92,7 @@ fn first_missing(mask: u8) -> Reason
 }
 
 // The first that holds, of a half that 9 lets pass or not.
+#[tactic(auto, unfolding(rules::specs::Reason::reason, volatile::specs::Packed::unpacked, rules::specs::Lines::high, rules::specs::Lines::place))]
 fn reason_of(fuses: u8, v: Volatile) -> Reason
     ensures { result ≡ reason fuses (unpacked v) }
 {
@@ -109,6 +110,7 @@ fn reason_of(fuses: u8, v: Volatile) -> Reason
 }
 
 // Why CLK's fall would change nothing by right, or that the right is there; 10, 14, 9. PGM is taken as low already.
+#[tactic(auto, unfolding(crate::specs::Reasons::reason_answer))]
 pub fn reason(image: &[u8], fuses: u8, v: Volatile) -> ReasonAnswer
     ensures { result ≡ reason_answer image.now fuses v }
 {

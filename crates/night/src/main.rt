@@ -169,7 +169,7 @@ fn visits(out: Output, off: usize) -> Output {
 
 fn main() {
     let out = console::start(b"night").say(
-        b"Nine visits, each from power_on to power-off, each with the right code.\n\
+        b"Nine visits, each from power-on to power-off, each with the right code.\n\
         The pin is read at bit 178, a 0 of the application zone: 0 is open, 1 is shut.\n\n\
         A reader that spends a try and never erases:\n",
     );

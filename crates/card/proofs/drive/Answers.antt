@@ -35,7 +35,7 @@ loop-i-smaller c = omega (arith, c.loop-i-test.true)
 
 pub loop-i-preserved : goal.loop-i-preserved
 loop-i-preserved c =
-    again c.loop-i.invariant c.loop-i-test.true c.step-m.ensures c.if-m-ne0.false
+    again c.loop-i.invariant c.loop-i-test.true c.step-m.ensures (omega arith)
 
 pub returns : goal.returns
 returns c = ends c.loop-i.invariant c.loop-i-test.false
