@@ -4,6 +4,7 @@
 use console::Output;
 use maker::Made;
 use rules::Answer;
+use std::io::Write;
 use volatile::Volatile;
 
 const CODE: u16 = 0xa53c;
@@ -119,25 +120,25 @@ fn visit(memory: &mut [u8; 174], halves: Halves, off: usize) -> Seen {
     }
 }
 
-fn tell_refusal(out: Output, k: u8) -> Output {
+fn tell_refusal<W: Write>(to: &mut W, out: Output, k: u8) -> Output {
     if k == 0 {
         return out;
     }
     let out = out
-        .say(b"no try, the step maker refuses by ")
-        .number(k as u64);
-    out.say(b"; bit 96 written all the same: ")
+        .say(to, b"no try, the step maker refuses by ")
+        .number(to, k as u64);
+    out.say(to, b"; bit 96 written all the same: ")
 }
 
-fn tell(out: Output, nth: u64, seen: Seen) -> Output {
-    let out = out.say(b"visit ").number(nth).say(b": ");
-    let out = tell_refusal(out, seen.refusal);
+fn tell<W: Write>(to: &mut W, out: Output, nth: u64, seen: Seen) -> Output {
+    let out = out.say(to, b"visit ").number(to, nth).say(to, b": ");
+    let out = tell_refusal(to, out, seen.refusal);
     let out = if seen.pin == 0 {
-        out.say(b"pin 0, open, tries left ")
+        out.say(to, b"pin 0, open, tries left ")
     } else {
-        out.say(b"pin 1, shut, tries left ")
+        out.say(to, b"pin 1, shut, tries left ")
     };
-    out.number(seen.left as u64).say(b"\n")
+    out.number(to, seen.left as u64).say(to, b"\n")
 }
 
 // The code stands in bits 80 to 95; bits 177 and 178 are 0, so that only SV lets the application zone be read.
@@ -150,7 +151,7 @@ fn image() -> [u8; 174] {
 }
 
 // An issued card: ISS is blown.
-fn visits(out: Output, off: usize) -> Output {
+fn visits<W: Write>(to: &mut W, out: Output, off: usize) -> Output {
     let mut memory = image();
     let mut halves = Halves {
         fuses: 3,
@@ -160,19 +161,25 @@ fn visits(out: Output, off: usize) -> Output {
     let mut nth = 1;
     while nth <= 9 {
         let seen = visit(&mut memory, halves, off);
-        told = tell(told, nth, seen);
+        told = tell(to, told, nth, seen);
         halves = seen.halves;
         nth += 1;
     }
     told
 }
 
-fn main() {
-    let out = console::start(b"night").say(
+fn main(rt: HostRuntime) {
+    let mut to = rt.stdout();
+    let mut errors = rt.stderr();
+    let out = console::start(&rt, &mut errors, b"night").say(
+        &mut to,
         b"Nine visits, each from power-on to power-off, each with the right code.\n\
         The pin is read at bit 178, a 0 of the application zone: 0 is open, 1 is shut.\n\n\
         A reader that spends a try and never erases:\n",
     );
-    let out = visits(out, ERASE).say(b"\nA reader that erases, by the step maker's own open:\n");
-    visits(out, 0).end(b"night");
+    let out = visits(&mut to, out, ERASE).say(
+        &mut to,
+        b"\nA reader that erases, by the step maker's own open:\n",
+    );
+    visits(&mut to, out, 0).end(&mut errors, b"night");
 }

@@ -1,6 +1,6 @@
 -- What a part of a record says of its buffer.
 use Rattle.std.specs.Prelude.{ℕ, List}
-use Rattle.io.specs.Counts.{IsPrefixLen}
+use Rattle.std.specs.Counts.{IsPrefixLen}
 use Rattle.replay.specs.declared.Part.{Part}
 use Rattle.replay.specs.declared.Part.TheVariants.{Bytes, Over, Broken}
 

@@ -32,18 +32,21 @@ fn answer(session: &[u8], out: &mut [u8]) -> Text
 }
 
 // A session has at most 181 + 4096 bytes, so one more tells a longer input. 4,202 bytes hold every text.
-fn main() {
-    let out = console::start(b"session");
+fn main(rt: HostRuntime) {
+    let mut errors = rt.stderr();
+    let out = console::start(&rt, &mut errors, b"session");
     let Output::Open = out else {
         return;
     };
     let mut input = [0u8; 4278];
-    let Input::Bytes(n) = console::read_input(b"session", &mut input) else {
+    let Input::Bytes(n) = console::read_input(&mut rt.stdin(), &mut errors, b"session", &mut input)
+    else {
         return;
     };
     let mut text = [0u8; 4202];
     let Text::Wrote(length) = answer(&input[..n], &mut text) else {
         return;
     };
-    out.say(&text[..length]).end(b"session");
+    out.say(&mut rt.stdout(), &text[..length])
+        .end(&mut errors, b"session");
 }
