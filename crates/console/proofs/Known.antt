@@ -7,7 +7,7 @@ use borrow.Author.Tests.{eqb-true}
 use borrow.Rule.Slice.PartMut.{put_mid, post_of}
 use Rattle.std.specs.Io.{ReadsAtMost}
 use Rattle.std.specs.Io.KnownBytes.{Keeps, Appends, Consumes, ReadConsumes}
-use Rattle.std.proofs.KnownBytes.{Appends-trans, Consumes-trans, Consumes-kept}
+use Rattle.std.proofs.KnownBytes.{Appends-trans, Consumes-trans}
 use Rattle.std.proofs.lemmas.List.{take_rest}
 use Rattle.std.proofs.lemmas.Slice.{take-put_mid_below}
 use Rattle.console.specs.declared.Read.TheVariants.{End, More}
@@ -56,12 +56,6 @@ pub consumed_more :
     Consumes before after (take (done + n) (filled done buffer part))
 consumed_more before mid after done n buffer part within fits first second =
     subst (Consumes before after) (sym (longer done n buffer part within fits)) (Consumes-trans _ _ _ _ _ first second)
-
-pub consumed_still :
-    (before mid after : Option (List ℕ)) (done : ℕ) (buffer part : List ℕ) → done ≤ length buffer →
-    Consumes before mid (take done buffer) → Keeps mid after → Consumes before after (take done (filled done buffer part))
-consumed_still before mid after done buffer part within first kept =
-    subst (Consumes before after) (sym (front done buffer part within)) (Consumes-kept _ _ _ _ first kept)
 
 pub appended_more :
     (before mid after : Option (List ℕ)) (done n : ℕ) (text : List ℕ) → Appends before mid (take done text) →

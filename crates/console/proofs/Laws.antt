@@ -1,13 +1,10 @@
--- What a read's answer comes to, and what saying nothing keeps.
-use Rattle.std.proofs.Common.{◌≡◌, ℕ, ◌≤◌, Bool, true, false, cond, List, length, refl, sym, ◌∙◌, arith, length-take-le, Ok, Err, Result}
+-- What a read's answer comes to.
+use Rattle.std.proofs.Common.{◌≡◌, ℕ, Bool, true, false, cond, refl, sym, ◌∙◌, arith, Ok, Err, Result}
 use Prim.Native.Nat.{min}
 use lib.Dec.{eqb}
 use borrow.Author.Tests.{eq-eqb, ne_eqb, eqb-false}
 use Rattle.console.specs.declared.Read.TheVariants.{End, More}
-use Rattle.console.specs.declared.Output.{Output}
-use Rattle.console.specs.declared.Output.TheVariants.{Open, Lost, Stopped}
-use Rattle.std.specs.Counts.{IsPrefixLen}
-use Rattle.console.specs.Ends.{outcome, Part, Said}
+use Rattle.console.specs.Ends.{outcome, Part}
 
 pub ended : (E : Type 0) (k room n : ℕ) → n ≡ min k room → n ≡ 0 → End ≡ outcome {E = E} (Ok k) room
 unfolding outcome
@@ -25,11 +22,3 @@ part (Ok k) room = go (eqb (min k room) 0) refl
     go : (t : Bool) → eqb (min k room) 0 ≡ t → Part (cond t End (More (min k room))) room
     go true q = tt
     go false q = omega (arith, eqb-false (min k room) 0 q)
-
-pub same : (out : Output) → Said out out
-same Open = tt
-same Lost = refl
-same Stopped = refl
-
-pub prefix_len : (n : ℕ) (xs : List ℕ) → n ≤ length xs → IsPrefixLen n xs
-prefix_len n xs h = (h, sym (length-take-le n xs h))
