@@ -120,27 +120,28 @@ def in_spans(text, rows):
     return SPAN.sub(lambda m: respelled(m.group(0), rows), text)
 
 
-QUOTED = re.compile(r'("(?:[^"\\\n]|\\.)*")')
+# What is no code: a comment, of which the code spans turn, and quoted text, which stays.
+APART = {
+    "antt": re.compile(r'(?P<comment>(?:(?<=\s)|^)--(?=[ \n-])[^\n]*)|(?P<quoted>"(?:[^"\\\n]|\\.)*")', re.M),
+    "rust": re.compile(r'(?P<comment>(?:(?<=\s)|^)//[^\n]*)|(?P<quoted>"(?:[^"\\]|\\.)*")', re.M | re.S),
+}
 
 
-def code_and_spans(text, rows, comment):
-    """Code turns but for its quoted text, and of a comment the code spans."""
-    out = []
-    for line in text.split("\n"):
-        m = re.search(comment, line)
-        at = m.start() if m else len(line)
-        parts = QUOTED.split(line[:at])
-        code = "".join(part if k % 2 else respelled(part, rows) for k, part in enumerate(parts))
-        out.append(code + in_spans(line[at:], rows))
-    return "\n".join(out)
+def code_and_spans(text, rows, apart):
+    out, at = [], 0
+    for m in apart.finditer(text):
+        out.append(respelled(text[at : m.start()], rows))
+        out.append(m.group(0) if m.group("quoted") else in_spans(m.group(0), rows))
+        at = m.end()
+    return "".join(out) + respelled(text[at:], rows)
 
 
 def antt(text, rows):
-    return code_and_spans(text, rows, r"(^|\s)--( |$|-)")
+    return code_and_spans(text, rows, APART["antt"])
 
 
 def rust(text, rows):
-    return code_and_spans(text, rows, r"(^|\s)//")
+    return code_and_spans(text, rows, APART["rust"])
 
 
 def edit(text, rows):
