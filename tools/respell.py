@@ -198,8 +198,14 @@ def together(rows):
 
 
 def main():
+    words = sys.argv[1:]
+    if words not in ([], ["--check"]):
+        print(__doc__)
+        raise SystemExit(0 if words == ["--help"] else 2)
+    if os.path.exists("docs/PORT.md"):
+        raise SystemExit("respell.py has run here: docs/PORT.md is there. A second run would turn names that are right")
     rows = table()
-    if "--check" in sys.argv:
+    if words:
         for old, new in sorted(rows.items()):
             print(f"{old}\t{new}")
         for line in together(rows):
