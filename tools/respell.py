@@ -25,6 +25,7 @@ OTHERWISE = {
     "Plainly-sound": "PlainlySoundRows",
     "freshRun": "fresh_card_run",
     "afterAStep": "after_a_step",
+    "one-step": "one_step_session",
 }
 # Lemmas that would fall together with a definition, where they stand.
 LEMMAS = [("crates/text/proofs/", {"no_room": "no_room_lem", "too_long": "too_long_lem"})]

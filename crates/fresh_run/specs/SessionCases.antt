@@ -10,9 +10,9 @@ abbrev pub Prints : List ℕ → String → Type 0
 Prints input text = session_text input ≡ quoted text
 
 -- A session of one step.
-unfoldable pub one_step_lem : List ℕ
+unfoldable pub one_step_session : List ℕ
 unfolding session_bytes sample
-one_step_lem = session_bytes sample 5 (0 ∷ [])
+one_step_session = session_bytes sample 5 (0 ∷ [])
 
 -- Power, the right code and a try with FUS high, and then to bit 81.
 unfoldable pub reads_the_code : List ℕ
@@ -36,10 +36,10 @@ SessionsPrint =
     (ends_in (session_text (session_bytes sample 7 (32 ∷ 48 ∷ 49 ∷ open_card L1 0xa53d 255))) (quoted "left 7\n") ≡ true) ×
     -- "It prints `bad N` alone": 11 to 17.
     Prints [] "bad 11\n" ×
-    Prints (take 178 one_step_lem) "bad 11\n" ×
-    Prints (set one_step_lem 0 175) "bad 12\n" ×
-    Prints (set one_step_lem 176 0) "bad 13\n" ×
-    Prints (set one_step_lem 178 8) "bad 14\n" ×
-    Prints (take 180 one_step_lem) "bad 15\n" ×
-    Prints (set one_step_lem 180 17) "bad 16\n" ×
-    Prints (one_step_lem ++ (0 ∷ [])) "bad 17\n"
+    Prints (take 178 one_step_session) "bad 11\n" ×
+    Prints (set one_step_session 0 175) "bad 12\n" ×
+    Prints (set one_step_session 176 0) "bad 13\n" ×
+    Prints (set one_step_session 178 8) "bad 14\n" ×
+    Prints (take 180 one_step_session) "bad 15\n" ×
+    Prints (set one_step_session 180 17) "bad 16\n" ×
+    Prints (one_step_session ++ (0 ∷ [])) "bad 17\n"

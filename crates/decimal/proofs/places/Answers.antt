@@ -16,9 +16,3 @@ pub returns : goal.returns
 returns c =
     let x = c.args.x in
     omega (arith, ap length (one_digit c.loop-rest.rest (omega arith)), at_most_twenty x c.ranges.x.fits)
-
-pub loop-rest-init : goal.loop-rest-init
-loop-rest-init c = omega arith
-
-pub loop-rest-smaller : goal.loop-rest-smaller
-loop-rest-smaller c = omega arith

@@ -27,9 +27,3 @@ returns c =
     let args = c.args in
     let all : at.i ≡ length args.part.now = omega arith in
     at.invariant.0 ∙ rw (all, drop-length args.part.now, append-nil)
-
-pub overflow_add-i : goal.overflow_add-i
-overflow_add-i c = omega arith
-
-pub loop-i-smaller : goal.loop-i-smaller
-loop-i-smaller c = omega arith

@@ -26,15 +26,3 @@ shape_of-out c = same_room c.loop-taken.invariant.1.put
 
 pub returns : goal.returns
 returns c = ended (rw (drop_of_length-le _ c.loop-taken-test.false) at c.loop-taken.invariant.1) (nothing_put _ _)
-
-pub bounds-bytes-taken : goal.bounds-bytes-taken
-bounds-bytes-taken c = omega arith
-
-pub bounds-out-next : goal.bounds-out-next
-bounds-out-next c = omega arith
-
-pub overflow_add-taken : goal.overflow_add-taken
-overflow_add-taken c = omega arith
-
-pub loop-taken-smaller : goal.loop-taken-smaller
-loop-taken-smaller c = omega arith

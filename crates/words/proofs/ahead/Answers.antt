@@ -6,19 +6,10 @@ use Rattle.words.proofs.ahead.Goals as goal
 pub loop-i-init : goal.loop-i-init
 loop-i-init c = begun
 
-pub bounds-s-i : goal.bounds-s-i
-bounds-s-i c = omega arith
-
 pub returns-then-stops : goal.returns-then-stops
 returns-then-stops c =
     let stop = sym c.stops.ensures ∙ c.if-stops.true in
     omega (arith, at_stop (ahead_scans _) c.loop-i.invariant c.loop-i-test.true stop)
-
-pub overflow_add-i : goal.overflow_add-i
-overflow_add-i c = omega arith
-
-pub loop-i-smaller : goal.loop-i-smaller
-loop-i-smaller c = omega arith
 
 pub loop-i-preserved : goal.loop-i-preserved
 loop-i-preserved c =

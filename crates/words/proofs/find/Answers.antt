@@ -6,18 +6,9 @@ use Rattle.words.proofs.find.Goals as goal
 pub loop-i-init : goal.loop-i-init
 loop-i-init c = begun
 
-pub bounds-table-i : goal.bounds-table-i
-bounds-table-i c = omega arith
-
 pub returns-then-table-i : goal.returns-then-table-i
 returns-then-table-i c =
     omega (arith, at_stop (index_scans _) c.loop-i.invariant c.loop-i-test.true (eq-eqb _ _ c.if-table-i.true))
-
-pub overflow_add-i : goal.overflow_add-i
-overflow_add-i c = omega arith
-
-pub loop-i-smaller : goal.loop-i-smaller
-loop-i-smaller c = omega arith
 
 pub loop-i-preserved : goal.loop-i-preserved
 loop-i-preserved c =

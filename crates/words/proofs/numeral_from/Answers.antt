@@ -13,12 +13,6 @@ scaled v b h = mul-le-mul_left v h
 pub loop-i-init : goal.loop-i-init
 loop-i-init c = begun
 
-pub bounds-w-i : goal.bounds-w-i
-bounds-w-i c = omega arith
-
-pub overflow_cast-d : goal.overflow_cast-d
-overflow_cast-d c = omega arith
-
 pub returns-then-base-d : goal.returns-then-base-d
 returns-then-base-d c =
     at_stop (number_scans _) c.loop-i.invariant c.loop-i-test.true
@@ -34,12 +28,6 @@ overflow_mul-value c = omega (arith, scaled c.loop-i.value c.args.base c.require
 
 pub overflow_add-value : goal.overflow_add-value
 overflow_add-value c = omega (arith, scaled c.loop-i.value c.args.base c.requires)
-
-pub overflow_add-i : goal.overflow_add-i
-overflow_add-i c = omega arith
-
-pub loop-i-smaller : goal.loop-i-smaller
-loop-i-smaller c = omega arith
 
 pub loop-i-preserved : goal.loop-i-preserved
 loop-i-preserved c =

@@ -9,23 +9,11 @@ loop-i-init c = begun
 pub returns-then-value-ge-FULL : goal.returns-then-value-ge-FULL
 returns-then-value-ge-FULL c = at_stop packed_scans c.loop-i.invariant c.loop-i-test.true (le-leb _ _ c.if-value-ge-FULL.true)
 
-pub overflow_mul-value : goal.overflow_mul-value
-overflow_mul-value c = omega arith
-
-pub bounds-w-i : goal.bounds-w-i
-bounds-w-i c = omega arith
-
 pub overflow_cast-value : goal.overflow_cast-value
 overflow_cast-value c = omega (arith, c.type_inv.w c.loop-i.i)
 
 pub overflow_add-value : goal.overflow_add-value
 overflow_add-value c = omega (arith, c.type_inv.w c.loop-i.i)
-
-pub overflow_add-i : goal.overflow_add-i
-overflow_add-i c = omega arith
-
-pub loop-i-smaller : goal.loop-i-smaller
-loop-i-smaller c = omega arith
 
 pub loop-i-preserved : goal.loop-i-preserved
 loop-i-preserved c =

@@ -18,12 +18,3 @@ returns c =
     let ready = c.requires.ready in
     rw (c.read.ensures, c.follows.ensures)
     (reads ready _ (fus_goes ready _ (turned ready _ FUS c.requires.line) (sym c.is_set.ensures ∙ c.if-is_set.false)))
-
-pub refused-requires : goal.refused-requires
-refused-requires c = search rules
-
-pub follows-requires : goal.follows-requires
-follows-requires c = search rules
-
-pub read-requires : goal.read-requires
-read-requires c = search rules

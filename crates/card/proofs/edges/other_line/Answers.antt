@@ -14,12 +14,3 @@ returns c =
     rw c.refused-2.ensures
     (many_lines c.requires.ready _ (omega arith) c.if-d-eq0.false c.if-d-eq1.false
     c.if-d-eq2.false c.requires.clock c.requires.program c.requires.io c.if-d-eq32.false)
-
-pub reset-requires : goal.reset-requires
-reset-requires c = search rules
-
-pub fuse-requires : goal.fuse-requires
-fuse-requires c = search rules
-
-pub power-requires : goal.power-requires
-power-requires c = search rules

@@ -9,9 +9,3 @@ returns-then-d-eq16 c =
     let ready = c.requires.ready in
     let t = turned ready _ IO c.if-d-eq16.true in
     rw (c.known.ensures, c.follows.ensures) (keeps ready _ (io_goes ready _ t) (io_kept ready _ t))
-
-pub program-requires : goal.program-requires
-program-requires c = search rules
-
-pub other_line-requires : goal.other_line-requires
-other_line-requires c = search rules

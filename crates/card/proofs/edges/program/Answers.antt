@@ -15,9 +15,3 @@ returns c =
     let ready = c.requires.ready in
     rw (c.read.ensures, c.follows.ensures)
     (reads ready _ (pgm_goes ready _ (turned ready _ PGM c.requires.line) c.if-n-eq-VCC_CLK_PGM.false))
-
-pub follows-requires : goal.follows-requires
-follows-requires c = search rules
-
-pub read-requires : goal.read-requires
-read-requires c = search rules

@@ -3,9 +3,3 @@ use Rattle.card.proofs.in_programming.power.Goals as goal
 
 pub returns : goal.returns
 returns c = rw (c.with_fuses.ensures, c.known.ensures, c.power_falls-done.ensures)
-
-pub known-requires : goal.known-requires
-known-requires c = search rules
-
-pub with_fuses-requires : goal.with_fuses-requires
-with_fuses-requires c = search rules

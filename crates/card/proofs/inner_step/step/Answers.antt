@@ -28,6 +28,3 @@ returns-then-d-is_set c =
 
 pub returns : goal.returns
 returns c = rw c.with_fuses-2.ensures c.other_than_clock.ensures
-
-pub other_than_clock-requires : goal.other_than_clock-requires
-other_than_clock-requires c = search rules

@@ -21,9 +21,3 @@ returns-then-d-eq2 c =
 pub returns : goal.returns
 unfolding QuickTo
 returns c = tt
-
-pub reset_falls-requires : goal.reset_falls-requires
-reset_falls-requires c = search rules
-
-pub follows-requires-then-d-eq2 : goal.follows-requires-then-d-eq2
-follows-requires-then-d-eq2 c = search rules

@@ -16,18 +16,6 @@ returns-then-image-at c =
     let l = c.loop-left in
     rw (sets_out l.image l.at (bytes_of l.left c.args.x) c.if-image-at.true) at l.invariant.0
 
-pub overflow_sub-left : goal.overflow_sub-left
-overflow_sub-left c = omega arith
-
-pub bounds-image-at : goal.bounds-image-at
-bounds-image-at c = omega arith
-
-pub overflow_add-at : goal.overflow_add-at
-overflow_add-at c = omega arith
-
-pub loop-left-smaller : goal.loop-left-smaller
-loop-left-smaller c = omega arith
-
 pub loop-left-preserved : goal.loop-left-preserved
 loop-left-preserved c =
     let a = c.args in
