@@ -71,7 +71,7 @@ fn comes_to(v: Volatile, image: &[u8], fuses: u8, n: u32) -> Walked
 }
 
 // One step where it walks, as most do: CLK on a card that is read. Any other is left to the card.
-// By the hint it stands in both exported calls: each step would pay some 37 instructions for being handed its answer in memory.
+// By the hint it stands in both exported calls: called, it would hand its answer over in memory, at over 30 instructions a step.
 #[inline(always)]
 pub fn step(image: &[u8], fuses: u8, v: Volatile, n: u8) -> Walked
     ensures { result ≡ walk_of (given image.now fuses v) n }
