@@ -5,6 +5,7 @@ pub mod Rights
 pub mod Programming
 pub mod Match
 pub mod Steps
+pub mod Numbers
 pub mod Refusals
 pub mod Card
 pub mod Maker

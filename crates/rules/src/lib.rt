@@ -1,6 +1,9 @@
 // The card's vocabulary: what the definitions in specs/ and the code above them name alike.
 #![tactic(auto)]
 
+ghost use Rattle.std.specs.Prelude.{◌≡◌};
+ghost use Rattle.rules.specs.Numbers.{number};
+
 // 01's numbers, once for the code; specs/ has them for the definitions (`bytes`, `longest`, and the places in File).
 
 // "174 bytes": the image.
@@ -69,17 +72,17 @@ pub enum Operation {
 // 02, W1: why CLK's fall would change nothing by right, in 02's order; or that the right is there.
 #[derive(Clone, Copy)]
 pub enum Reason {
-    NoProgramming,
-    NothingStored,
-    WrongRST,
-    NeverAllowed,
-    SVMissing,
-    P1Missing,
-    E1Missing,
-    MFBlown,
-    ISSBlown,
-    FUSLow,
-    RightIsThere,
+    NoProgramming = 1,
+    NothingStored = 2,
+    WrongRST = 3,
+    NeverAllowed = 4,
+    SVMissing = 5,
+    P1Missing = 6,
+    E1Missing = 7,
+    MFBlown = 8,
+    ISSBlown = 9,
+    FUSLow = 10,
+    RightIsThere = 0,
 }
 
 // What a step gets: the pin's answer, or a refusal.
@@ -87,4 +90,40 @@ pub enum Reason {
 pub enum Answer {
     Pin(u8),
     Refused(u8),
+}
+
+// Why a call is refused, by the number that a caller gets.
+#[derive(Clone, Copy, Debug, PartialEq, Eq)]
+pub enum Refusal {
+    StepOver63 = 1,
+    ManyLines = 2,
+    RSTOrFUSInProgramming = 3,
+    CLKFallsWithPGMHigh = 4,
+    RSTFallsWithCLKHigh = 5,
+    PGMRisesWithCLKHigh = 6,
+    VCCRisesWithCLKOrPGMHigh = 7,
+    MadeUp = 9,
+    ImageLength = 10,
+    FileTooShort = 11,
+    FirstCount = 12,
+    SecondCount = 13,
+    FuseByte = 14,
+    SessionTooShort = 15,
+    StepCount = 16,
+    FileLength = 17,
+    RunTooLong = 18,
+    AnswersTooShort = 19,
+    WalkTooLong = 21,
+    NoRoom = 22,
+    NoTryLeft = 23,
+}
+
+impl Refusal {
+    // There is no 8 and no 20.
+    #[tactic(auto, unfolding(crate::specs::Numbers::number))]
+    pub fn number(self) -> u8
+        ensures { result ≡ number self }
+    {
+        self as u8
+    }
 }
