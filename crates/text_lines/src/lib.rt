@@ -8,6 +8,8 @@ ghost use Rattle.text_lines.specs.Orders.{firsts, sizes, bytes_order, byte_order
 
 use words::{Number, Stop};
 
+pub mod faults;
+
 #[derive(Clone, Copy)]
 pub enum Change {
     Fill {
