@@ -1,3 +1,4 @@
 pub mod Fitting
-mod SecondWord
+mod Choices
+mod Counted
 mod ZoneBytes
