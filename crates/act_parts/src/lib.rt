@@ -15,10 +15,8 @@ pub fn put_walk(fus: bool, n: usize, out: &mut [u8], at: usize) -> usize
 {
     let pulse = levels::pulse(CLK, fus);
     let mut next = at;
-    let mut left = n;
-    while 0 < left {
+    for _ in 0..n {
         next = memory::put(out, next, &pulse);
-        left -= 1;
     }
     next
 }
@@ -27,11 +25,8 @@ pub fn put_show(fus: bool, width: u32, x: u32, out: &mut [u8], at: usize) -> usi
     ensures { Put out.old at (show fus width x) result out.new }
 {
     let mut next = at;
-    let mut sent = 0;
-    while sent < width {
-        sent += 1;
-        let bit = levels::bit(fus, is_set(x, width - sent));
-        next = memory::put(out, next, &bit);
+    for k in (0..width).rev() {
+        next = memory::put(out, next, &levels::bit(fus, is_set(x, k)));
     }
     let idle = [levels::idle(fus)];
     memory::put(out, next, &idle)
