@@ -3,11 +3,11 @@ use Prim.Native.Nat.{ℕ}
 use mathlib.Core.Path.{◌≡◌}
 use mathlib.Core.List.{List}
 use Rattle.memory.proofs.Determined.{determined}
-use Rattle.maker.specs.declared.Made.{Made}
+use Rattle.std.specs.Prelude.{Result}
 use Rattle.maker.specs.Act.{Acted}
 
 pub act_determined :
-    (refused : ℕ) (steps buffer : List ℕ) (r r' : Made) (after after' : List ℕ) → Acted refused steps buffer r after →
+    (refused : ℕ) (steps buffer : List ℕ) (r r' : Result ℕ ℕ) (after after' : List ℕ) → Acted refused steps buffer r after →
     Acted refused steps buffer r' after' → (r ≡ r') × (after ≡ after')
 act_determined refused steps buffer r r' after after' p q =
     let same = determined p.answer q.answer in
