@@ -9,6 +9,8 @@ use borrow.Author.Tests.{lt-ltb, le-ltb, eq-eqb, ne_eqb, eqb-false, ltb-false}
 use lib.Dec.{eqb, ltb, eqb-suc-zero}
 use lib.ListN.{length}
 use Rattle.memory.specs.Buffer.{Put}
+use Rattle.memory.specs.declared.lent.Filling.{Filling}
+use Rattle.memory.specs.Filled.{Filled}
 use Rattle.memory.proofs.Buffer.{whole, at_start}
 use Rattle.rules.specs.Maker.{act_refusal}
 use Rattle.std.specs.Prelude.{Ok, Err}
@@ -49,3 +51,9 @@ module _ (refused : ℕ) (steps l : List ℕ) where
     pub wrote : {r : ℕ} {m : List ℕ} → n ≤ length l → Put l 0 steps r m → Acted refused steps l (Ok r) m
     unfolding act_refusal
     wrote h p = wrote_by 0 (rw (e, counted, le-ltb _ _ h) refl) refl p
+
+    -- By what fills the buffer from its start on, `o` being what the buffer then holds.
+    pub filled :
+        {t u : Filling} {o : List ℕ} → n ≤ length l → t.out.now ≡ l → t.at ≡ 0 → Filled t steps u → o ≡ u.out.now →
+        Acted refused steps l (Ok (u.at)) o
+    filled h e z f d = rw d (wrote h (rw (e, z) at f.put))

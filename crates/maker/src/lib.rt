@@ -10,6 +10,7 @@ ghost use Rattle.rules.specs.Numbers.{numbered};
 ghost use Rattle.maker.specs.Act.{Acted};
 
 use act_parts::levels;
+use memory::lent::Filling;
 use rules::Refusal;
 
 // The highest address, as a length.
@@ -47,7 +48,9 @@ pub fn walk(fus: bool, n: usize, out: &mut [u8]) -> Result<usize, Refusal>
         return Err(Refusal::WalkTooLong);
     }
     fits(2 * n, out.len())?;
-    Ok(act_parts::put_walk(fus, n, out, 0))
+    let mut to = Filling::of(out);
+    act_parts::put_walk(fus, n, &mut to);
+    Ok(to.at)
 }
 
 fn show_bits(fus: bool, width: u32, x: u32, out: &mut [u8]) -> Result<usize, Refusal>
@@ -55,7 +58,9 @@ fn show_bits(fus: bool, width: u32, x: u32, out: &mut [u8]) -> Result<usize, Ref
     ensures { Acted 0 (show fus width x) out.old (numbered result) out.new }
 {
     fits(3 * width as usize + 1, out.len())?;
-    Ok(act_parts::put_show(fus, width, x, out, 0))
+    let mut to = Filling::of(out);
+    act_parts::put_show(fus, width, x, &mut to);
+    Ok(to.at)
 }
 
 // The types say how many bits are shown, as the exported names do: two calls of one line are plainer than one generic in the type.
@@ -92,6 +97,8 @@ pub fn open(fus: bool, code: u16, attempts: u8, out: &mut [u8]) -> Result<usize,
     }
     let k = attempts.leading_zeros() as usize;
     fits(223 + 2 * k, out.len())?;
-    let shown = act_parts::put_code(fus, code, out);
-    Ok(act_parts::put_try(fus, k, out, shown))
+    let mut to = Filling::of(out);
+    act_parts::put_code(fus, code, &mut to);
+    act_parts::put_try(fus, k, &mut to);
+    Ok(to.at)
 }

@@ -1,8 +1,9 @@
 use native.Mathlib.Omega.{arith}
+use Rattle.std.proofs.Common.{rules}
 use Rattle.std.proofs.lemmas.Result.{err_from_is_err_and}
-use Rattle.memory.proofs.Buffer.{then}
+use Rattle.memory.proofs.Filled.{then_filled}
 use Rattle.rules.specs.Numbers.{number, numbered}
-use Rattle.maker.proofs.Acting.{barred, short, wrote}
+use Rattle.maker.proofs.Acting.{barred, short, filled}
 use Rattle.maker.proofs.Opening.{open_halves, none_left, some_left, length_opening}
 use Rattle.maker.proofs.open.Goals as goal
 
@@ -25,6 +26,8 @@ unfolding numbered
 returns c =
     let a = c.args in
     let byte = c.ranges.attempts.fits in
-    let both = then c.put_code-shown.ensures c.put_try.ensures in
+    let to = c.of-to.ensures in
+    let both = then_filled c.put_code.ensures c.put_try.ensures in
     let steps = rw (← open_halves a.fus a.code a.attempts byte) at both in
-    wrote _ _ _ (some_left a.attempts byte (omega arith)) _ (length_opening a.fus a.code a.attempts byte) c.in_ok-fits.ensures steps
+    filled _ _ _ (some_left a.attempts byte (omega arith)) _ (length_opening a.fus a.code a.attempts byte) c.in_ok-fits.ensures
+    to.bytes to.start steps (search rules)

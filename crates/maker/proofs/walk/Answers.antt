@@ -1,11 +1,12 @@
 use Prim.Native.Nat.{◌*◌}
 use mathlib.Core.Path.{refl}
 use borrow.Author.Tests.{lt-ltb, le-ltb}
+use Rattle.std.proofs.Common.{rules}
 use Rattle.std.proofs.lemmas.Result.{err_from_is_err_and}
 use Rattle.rules.specs.Maker.{walk_refusal}
 use Rattle.rules.specs.Numbers.{number, numbered}
 use Rattle.theorems.proofs.MakerLaws.{length_walk}
-use Rattle.maker.proofs.Acting.{barred, short, wrote}
+use Rattle.maker.proofs.Acting.{barred, short, filled}
 use Rattle.maker.proofs.walk.Goals as goal
 
 pub returns-then-n-gt-LAST : goal.returns-then-n-gt-LAST
@@ -24,5 +25,6 @@ pub returns : goal.returns
 unfolding walk_refusal numbered
 returns c =
     let a = c.args in
-    let walked = c.put_walk.ensures in
-    wrote _ _ _ (rw (le-ltb _ _ c.if-n-gt-LAST.false) refl) (2 * a.n) (length_walk a.fus a.n) c.in_ok-fits.ensures walked
+    let to = c.of-to.ensures in
+    filled _ _ _ (rw (le-ltb _ _ c.if-n-gt-LAST.false) refl) (2 * a.n) (length_walk a.fus a.n) c.in_ok-fits.ensures
+    to.bytes to.start c.put_walk.ensures (search rules)
