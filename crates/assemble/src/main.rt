@@ -4,7 +4,6 @@
 use console::{Input, Output};
 use report::Text;
 use std::io::Write;
-use text::Assembled;
 
 // A text has at most 65,536 bytes, so one more tells a longer input. 84 bytes hold every line.
 fn main(rt: HostRuntime) {
@@ -24,13 +23,17 @@ fn main(rt: HostRuntime) {
     };
     let mut session = [0u8; 4277];
     match text::assemble(&source[..n], &mut session) {
-        Assembled::Session(count) => {
+        Ok(count) => {
             out.say(&mut rt.stdout(), &session[..count])
                 .end(&mut errors, b"assemble");
         }
-        Assembled::Wrong { line, refusal } => {
+        Err(wrong) => {
             let mut said = [0u8; 84];
-            let Text::Wrote(length) = text_errors::error_line(line, refusal, &mut said) else {
+            let Text::Wrote(length) = text_errors::error_line(
+                wrong.line,
+                wrong.fault.number(),
+                &mut said,
+            ) else {
                 return;
             };
             let _ = Write::write_all(&mut errors, &said[..length]);

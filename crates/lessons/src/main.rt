@@ -9,7 +9,6 @@ use report::Text;
 use std::fs;
 use std::io::Write;
 use std::rt::Files;
-use text::Assembled;
 use words::Stop;
 
 fn read<F: Files>(files: &F, path: &str, into: &mut [u8]) -> Input
@@ -24,7 +23,7 @@ fn read<F: Files>(files: &F, path: &str, into: &mut [u8]) -> Input
 fn tell<W: Write>(to: &mut W, out: Output, source: &[u8], recorded: &[u8]) -> Output {
     let mut session = [0u8; 4277];
     match text::assemble(source, &mut session) {
-        Assembled::Session(n) => {
+        Ok(n) => {
             let out = out.number(to, n as u64);
             if &session[..n] == recorded {
                 out.say(to, b" bytes, as recorded\n")
@@ -32,9 +31,9 @@ fn tell<W: Write>(to: &mut W, out: Output, source: &[u8], recorded: &[u8]) -> Ou
                 out.say(to, b" bytes, not as recorded\n")
             }
         }
-        Assembled::Wrong { line, refusal } => {
+        Err(wrong) => {
             let mut said = [0u8; 84];
-            let made = text_errors::error_line(line, refusal, &mut said);
+            let made = text_errors::error_line(wrong.line, wrong.fault.number(), &mut said);
             show(to, out, made, &said)
         }
     }
