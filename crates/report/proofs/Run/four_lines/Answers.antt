@@ -1,10 +1,10 @@
 use native.Mathlib.Omega.{arith}
 use Rattle.report.proofs.Laws.{made, too_small}
-use Rattle.report.proofs.four_lines.Goals as goal
+use Rattle.report.proofs.Run.four_lines.Goals as goal
 
 pub returns-then-out-all : goal.returns-then-out-all
 returns-then-out-all c = too_small (omega arith)
 
 pub returns : goal.returns
 returns c =
-    made c.lines_length-all.ensures c.if-out-all.false c.put_lines.ensures
+    made c.length-all.ensures c.if-out-all.false c.put.ensures

@@ -1,5 +1,5 @@
 use Rattle.memory.proofs.Buffer.{then}
-use Rattle.report.proofs.put_counts.Goals as goal
+use Rattle.report.proofs.Run.put_counts.Goals as goal
 
 pub returns : goal.returns
 returns c =
