@@ -1,4 +1,4 @@
-use Rattle.std.proofs.Common.{◌≤◌, ◌<◌, ◌≡◌, map, length, get_or, arith}
+use Rattle.std.proofs.Common.{◌≤◌, ◌<◌, map, length, arith}
 use lib.ListN.{length-map, drop_of_length-le, get_or-map}
 use Rattle.memory.proofs.Buffer.{next_byte, ended, nothing_put, then}
 use Rattle.decimal.specs.Decimal.{digit}
