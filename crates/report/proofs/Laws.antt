@@ -38,16 +38,21 @@ never_small {text} {before} {after} {r} h m room small =
     omega arith
 
 -- A text that was written lies within its buffer.
-pub written_fits : {text before after : List ℕ} {r : Option ℕ} (n : ℕ) → Made text before r after → r ≡ Some n → n ≤ length before
+pub written_fits :
+    {text before after : List ℕ} {r : Option ℕ} (n : ℕ) → Made text before r after → r ≡ Some n → n ≤ length before
 unfolding told
 written_fits {text} {before} {after} {r} n m e = go (ltb (length before) (length text)) refl
   where
     go : (t : Bool) → ltb (length before) (length text) ≡ t → n ≤ length before
     go true q =
         let small : r ≡ None = rw q at m.answered in
-        let z : ◌≡◌ {A = ℕ} 0 1 = cc in
-        omega arith
+        cc
     go false q =
         let whole : r ≡ Some (length text) = rw q at m.answered in
         let same : n ≡ length text = cc in
         omega (arith, ltb-false (length before) (length text) q)
+
+-- So does it in the buffer that it was written to.
+pub written_within :
+    {text before after : List ℕ} {n : ℕ} → length after ≡ length before → Made text before (Some n) after → n ≤ length after
+written_within same m = omega (arith, written_fits _ m refl)
