@@ -7,7 +7,7 @@ use lib.Dec.{eqb}
 use lib.ListN.{length, take, drop}
 use mir.Val.{bool_byte}
 use Rattle.volatile.specs.Packed.{one}
-use Rattle.maker.specs.declared.Made.{Made}
+use Rattle.std.specs.Prelude.{Result}
 use Rattle.maker.specs.Act.{in_buffer, Acted}
 use Rattle.rules.specs.File.{fuse_section, step_count, step_section, session_refusal}
 use Rattle.file.specs.declared.CardFile.{CardFile}
@@ -28,12 +28,12 @@ as_byte false = refl
 
 -- An act's promise, in the numbers of its answer.
 pub act_told :
-    {k : ℕ} {steps buffer after : List ℕ} {m : Made} {r : ZhavMade} → Acted k steps buffer m after → r ≡ made_of m →
+    {k : ℕ} {steps buffer after : List ℕ} {m : Result ℕ ℕ} {r : ZhavMade} → Acted k steps buffer m after → r ≡ made_of m →
     ActTold k steps buffer r after
 act_told {steps = steps} {buffer = buffer} acted told =
     record {
       answer = told ∙ ap made_of acted.answer;
-      bytes = acted.bytes ∙ ap (λ (m : Made). in_buffer m steps buffer) acted.answer;
+      bytes = acted.bytes ∙ ap (λ (m : Result ℕ ℕ). in_buffer m steps buffer) acted.answer;
     }
 
 pub card_told :

@@ -1,5 +1,5 @@
 -- Each answer of the card, the maker and the openers as the plain numbers that a bench gets.
-use Rattle.std.specs.Prelude.{ℕ, Bool, not, eqb}
+use Rattle.std.specs.Prelude.{ℕ, Bool, not, eqb, Result}
 use Rattle.volatile.specs.Packed.{one}
 use Rattle.card.specs.declared.Told.{Told}
 use Rattle.walk.specs.declared.Walked.{Walked}
@@ -7,7 +7,6 @@ use Rattle.looks.specs.declared.FlagsAnswer.{FlagsAnswer}
 use Rattle.looks.specs.Flags.{flags_refused, flags_held}
 use Rattle.looks.specs.declared.ReasonAnswer.{ReasonAnswer}
 use Rattle.looks.specs.Reasons.{reason_told, reason_refused}
-use Rattle.maker.specs.declared.Made.{Made}
 use Rattle.maker.specs.Act.{refusal_in as act_refused, count_of}
 use Rattle.rules.specs.File.{steps_at}
 use Rattle.file.specs.declared.CardFile.{CardFile}
@@ -45,7 +44,7 @@ abbrev pub is_high : ℕ → Bool
 is_high x = not (eqb x 0)
 
 -- An act: the count, 0 where refused, and the refusal, 0 if none.
-unfoldable pub made_of : Made → ZhavMade
+unfoldable pub made_of : Result ℕ ℕ → ZhavMade
 unfolding count_of act_refused
 made_of a = record { count = count_of a; refusal = act_refused a }
 

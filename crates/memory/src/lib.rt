@@ -5,6 +5,8 @@ ghost use Rattle.std.specs.Prelude.{◌≡◌, set};
 ghost use Rattle.memory.specs.Image.{digit, bit, written, erased_word, filled};
 ghost use Rattle.memory.specs.Buffer.{Put};
 
+pub mod lent;
+
 // Binary digit k of x.
 pub fn is_set(x: u32, k: u32) -> bool
     ensures { result ≡ digit k x }

@@ -1,3 +1,4 @@
+pub mod ByNumber
 pub mod Fitting
 mod SecondWord
 mod ZoneBytes
