@@ -1,15 +1,16 @@
 -- Each answer of the card, the maker and the openers as the plain numbers that a bench gets.
-use Rattle.std.specs.Prelude.{ℕ, Bool, not, eqb}
+use Rattle.std.specs.Prelude.{ℕ, Bool, not, eqb, Result}
 use Rattle.volatile.specs.Packed.{one}
 use Rattle.card.specs.declared.Told.{Told}
 use Rattle.walk.specs.declared.Walked.{Walked}
-use Rattle.looks.specs.declared.FlagsAnswer.{FlagsAnswer}
-use Rattle.looks.specs.Flags.{flags_refused, flags_held}
+use Rattle.looks.specs.declared.HeldFlags.{HeldFlags}
+use Rattle.looks.specs.Flags.{flags_held}
 use Rattle.looks.specs.declared.ReasonAnswer.{ReasonAnswer}
 use Rattle.looks.specs.Reasons.{reason_told, reason_refused}
 use Rattle.maker.specs.declared.Made.{Made}
 use Rattle.maker.specs.Act.{refusal_in as act_refused, count_of}
 use Rattle.rules.specs.File.{steps_at}
+use Rattle.rules.specs.Numbers.{refused}
 use Rattle.file.specs.declared.CardFile.{CardFile}
 use Rattle.file.specs.declared.Session.{Session}
 use Rattle.file.specs.declared.Session.TheVariants as session
@@ -29,11 +30,11 @@ abbrev pub of_step : Told → ZhavStepped
 of_step s = record { half = s.volatile; fuses = s.fuses; answer = s.pin; refusal = s.refusal }
 
 -- The flags, 1 for one that holds, and none where refused.
-unfoldable pub flag_bytes : FlagsAnswer → ZhavFlags
-unfolding flags_held flags_refused
+unfoldable pub flag_bytes : Result HeldFlags ℕ → ZhavFlags
+unfolding flags_held refused
 flag_bytes a =
     let held = flags_held a in
-    record { sv = one held.0; p1 = one held.1.0; r1 = one held.1.1.0; e1 = one held.1.1.1; refusal = flags_refused a }
+    record { sv = one held.sv; p1 = one held.p1; r1 = one held.r1; e1 = one held.e1; refusal = refused a }
 
 -- The reason by its number, 255 where refused.
 unfoldable pub reason_bytes : ReasonAnswer → ZhavWhy

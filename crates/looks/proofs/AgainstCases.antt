@@ -2,12 +2,13 @@
 use mathlib.Core.Path.{refl}
 use Rattle.rules.specs.CaseForms.{sample}
 use Rattle.rules.specs.Computing.{the_card}
-use Rattle.looks.specs.Flags.{flags_of, flags_refused, flags_held}
+use Rattle.rules.specs.Numbers.{refused}
+use Rattle.looks.specs.Flags.{flags_of, flags_held}
 use Rattle.looks.specs.Reasons.{reason_answer, reason_refused, reason_told}
 use Rattle.looks.specs.Cases.{FlagsTold, ReasonsTold}
 
 pub flags_told : FlagsTold
-unfolding the_card flags_of flags_refused flags_held
+unfolding the_card flags_of refused flags_held
 flags_told = (refl, refl, refl)
 
 pub reasons_told : ReasonsTold
