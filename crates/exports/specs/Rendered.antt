@@ -5,10 +5,10 @@ use Rattle.card.specs.declared.Told.{Told}
 use Rattle.walk.specs.declared.Walked.{Walked}
 use Rattle.looks.specs.declared.HeldFlags.{HeldFlags}
 use Rattle.looks.specs.Flags.{flags_held}
-use Rattle.looks.specs.declared.ReasonAnswer.{ReasonAnswer}
-use Rattle.looks.specs.Reasons.{reason_told, reason_refused}
+use Rattle.looks.specs.Reasons.{reason_told}
 use Rattle.maker.specs.declared.Made.{Made}
 use Rattle.maker.specs.Act.{refusal_in as act_refused, count_of}
+use Rattle.rules.specs.declared.Reason.{Reason}
 use Rattle.rules.specs.File.{steps_at}
 use Rattle.rules.specs.Numbers.{refused}
 use Rattle.file.specs.declared.CardFile.{CardFile}
@@ -37,9 +37,9 @@ flag_bytes a =
     record { sv = one held.sv; p1 = one held.p1; r1 = one held.r1; e1 = one held.e1; refusal = refused a }
 
 -- The reason by its number, 255 where refused.
-unfoldable pub reason_bytes : ReasonAnswer → ZhavWhy
-unfolding reason_told reason_refused
-reason_bytes a = record { reason = reason_told a; refusal = reason_refused a }
+unfoldable pub reason_bytes : Result Reason ℕ → ZhavWhy
+unfolding reason_told refused
+reason_bytes a = record { reason = reason_told a; refusal = refused a }
 
 -- A level as a byte: 0 low, anything else high.
 abbrev pub is_high : ℕ → Bool

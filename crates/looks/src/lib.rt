@@ -49,13 +49,6 @@ pub fn tries_left(image: &[u8]) -> u32
     }
 }
 
-// What the call that gives the reason tells.
-#[derive(Clone, Copy)]
-pub enum ReasonAnswer {
-    Told(Reason),
-    Refused(u8),
-}
-
 // A reason's number, in 02's order; 0, the right is there.
 pub fn number_of(r: Reason) -> u8
     ensures { result ≡ number r }
@@ -99,13 +92,14 @@ fn reason_of(fuses: u8, v: Volatile) -> Reason
 }
 
 // Why CLK's fall would change nothing by right, or that the right is there; 10, 14, 9. PGM is taken as low already.
-#[tactic(auto, unfolding(crate::specs::Reasons::reason_answer))]
-pub fn reason(image: &[u8], fuses: u8, v: Volatile) -> ReasonAnswer
-    ensures { result ≡ reason_answer image.now fuses v }
+#[tactic(auto, unfolding(crate::specs::Reasons::reason_answer, refusals::specs::Before::given_refusal, rules::specs::Refusals::before_a_step, rules::specs::Numbers::numbered, rules::specs::Numbers::number))]
+pub fn reason(image: &[u8], fuses: u8, v: Volatile) -> Result<Reason, Refusal>
+    ensures { numbered result ≡ reason_answer image.now fuses v }
 {
-    let refusal = refusals::state_refusal(image, fuses, v);
-    if refusal != 0 {
-        return ReasonAnswer::Refused(refusal);
+    match refusals::state_refusal(image, fuses, v) {
+        0 => Ok(reason_of(fuses, v)),
+        10 => Err(Refusal::ImageLength),
+        14 => Err(Refusal::FuseByte),
+        _ => Err(Refusal::MadeUp),
     }
-    ReasonAnswer::Told(reason_of(fuses, v))
 }
