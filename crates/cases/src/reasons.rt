@@ -1,6 +1,6 @@
 // 02, W1: a state for each reason, and both neighbours of each border.
 use crate::table::Table;
-use looks::ReasonAnswer;
+use rules::{Reason, Refusal};
 use volatile::Volatile;
 
 // Levels with CLK high: VCC 1, RST 2, CLK 4, PGM 8, FUS 32.
@@ -24,10 +24,10 @@ const ERASE: u32 = 24;
 const E1: u32 = 32;
 
 // A refusal is told as 255.
-fn number(told: ReasonAnswer) -> u64 {
+fn number(told: Result<Reason, Refusal>) -> u64 {
     match told {
-        ReasonAnswer::Told(reason) => looks::number_of(reason) as u64,
-        ReasonAnswer::Refused(_) => 255,
+        Ok(reason) => looks::number_of(reason) as u64,
+        Err(_) => 255,
     }
 }
 

@@ -90,11 +90,7 @@ impl Table {
         let out = names::half(&mut to, out, expected);
         let out = out.say(&mut to, b", got ");
         let out = names::half(&mut to, out, got);
-        let lines = expected.lines == got.lines;
-        let address = expected.address == got.address;
-        let flags = expected.flags == got.flags;
-        self.with(out.say(&mut to, b"\n"))
-            .counted(lines & (address & flags))
+        self.with(out.say(&mut to, b"\n")).counted(expected == got)
     }
 
     pub(crate) fn total(self) -> Output {

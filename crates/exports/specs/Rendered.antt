@@ -1,15 +1,15 @@
 -- Each answer of the card, the maker and the openers as the plain numbers that a bench gets.
 use Rattle.std.specs.Prelude.{ℕ, Bool, not, eqb, Result, Ok, Err}
-use Rattle.rules.specs.Numbers.{refused}
 use Rattle.volatile.specs.Packed.{one}
 use Rattle.card.specs.declared.Told.{Told}
 use Rattle.walk.specs.declared.Walked.{Walked}
-use Rattle.looks.specs.declared.FlagsAnswer.{FlagsAnswer}
-use Rattle.looks.specs.Flags.{flags_refused, flags_held}
-use Rattle.looks.specs.declared.ReasonAnswer.{ReasonAnswer}
-use Rattle.looks.specs.Reasons.{reason_told, reason_refused}
+use Rattle.looks.specs.declared.HeldFlags.{HeldFlags}
+use Rattle.looks.specs.Flags.{flags_held}
+use Rattle.looks.specs.Reasons.{reason_told}
 use Rattle.maker.specs.Act.{refusal_in as act_refused, count_of}
+use Rattle.rules.specs.declared.Reason.{Reason}
 use Rattle.rules.specs.File.{steps_at}
+use Rattle.rules.specs.Numbers.{refused}
 use Rattle.file.specs.declared.CardFile.{CardFile}
 use Rattle.file.specs.declared.Session.{Session}
 use Rattle.file.specs.Opening.{card_fuses, session_fuses, session_steps}
@@ -28,16 +28,16 @@ abbrev pub of_step : Told → ZhavStepped
 of_step s = record { half = s.volatile; fuses = s.fuses; answer = s.pin; refusal = s.refusal }
 
 -- The flags, 1 for one that holds, and none where refused.
-unfoldable pub flag_bytes : FlagsAnswer → ZhavFlags
-unfolding flags_held flags_refused
+unfoldable pub flag_bytes : Result HeldFlags ℕ → ZhavFlags
+unfolding flags_held refused
 flag_bytes a =
     let held = flags_held a in
-    record { sv = one held.0; p1 = one held.1.0; r1 = one held.1.1.0; e1 = one held.1.1.1; refusal = flags_refused a }
+    record { sv = one held.sv; p1 = one held.p1; r1 = one held.r1; e1 = one held.e1; refusal = refused a }
 
 -- The reason by its number, 255 where refused.
-unfoldable pub reason_bytes : ReasonAnswer → ZhavWhy
-unfolding reason_told reason_refused
-reason_bytes a = record { reason = reason_told a; refusal = reason_refused a }
+unfoldable pub reason_bytes : Result Reason ℕ → ZhavWhy
+unfolding reason_told refused
+reason_bytes a = record { reason = reason_told a; refusal = refused a }
 
 -- A level as a byte: 0 low, anything else high.
 abbrev pub is_high : ℕ → Bool

@@ -5,8 +5,7 @@
 use card::Ran;
 use console::{Input, Output};
 use file::Session;
-use looks::ReasonAnswer;
-use rules::Reason;
+use rules::{Reason, Refusal};
 use std::io::Write;
 use volatile::Volatile;
 
@@ -55,16 +54,16 @@ fn in_words<W: Write>(to: &mut W, out: Output, r: Reason) -> Output {
 }
 
 // The card after its run is never refused.
-fn tell_reason<W: Write>(to: &mut W, out: Output, told: ReasonAnswer) -> Output {
+fn tell_reason<W: Write>(to: &mut W, out: Output, told: Result<Reason, Refusal>) -> Output {
     match told {
-        ReasonAnswer::Told(reason) => {
+        Ok(reason) => {
             let out = out
                 .say(to, b"reason ")
                 .number(to, looks::number_of(reason) as u64);
             let out = out.say(to, b", ");
             in_words(to, out, reason)
         }
-        ReasonAnswer::Refused(_) => out,
+        Err(_) => out,
     }
 }
 
