@@ -1,6 +1,6 @@
 // 02, W1: a state for each reason, and both neighbours of each border.
 use crate::table::Table;
-use looks::ReasonAnswer;
+use rules::{Reason, Refusal};
 use volatile::Volatile;
 
 // Levels with CLK high: VCC 1, RST 2, CLK 4, PGM 8, FUS 32.
@@ -24,11 +24,8 @@ const ERASE: u32 = 24;
 const E1: u32 = 32;
 
 // A refusal is told as 255.
-fn number(told: ReasonAnswer) -> u64 {
-    match told {
-        ReasonAnswer::Told(reason) => looks::number_of(reason) as u64,
-        ReasonAnswer::Refused(_) => 255,
-    }
+fn number(told: Result<Reason, Refusal>) -> u64 {
+    told.map_or(255, |reason| looks::number_of(reason) as u64)
 }
 
 fn why(t: &mut Table, fuses: u8, levels: u32, address: u32, flags: u32, expected: u64) {

@@ -66,10 +66,7 @@ impl Table {
         self.out.say(b", got ");
         names::half(&mut self.out, got);
         self.out.say(b"\n");
-        let lines = expected.lines == got.lines;
-        let address = expected.address == got.address;
-        let flags = expected.flags == got.flags;
-        self.count(lines && address && flags);
+        self.count(expected == got);
     }
 
     pub(crate) fn end(mut self) {

@@ -16,6 +16,12 @@ use std::rt::Env;
 #[derive(Clone, Copy)]
 pub struct Unreadable;
 
+impl From<io::Error> for Unreadable {
+    fn from(_error: io::Error) -> Unreadable {
+        Unreadable
+    }
+}
+
 // A write failed or took nothing.
 #[derive(Clone, Copy)]
 struct Unwritten;
@@ -81,10 +87,9 @@ pub fn read_full<R: io::Read>(from: &mut R, into: &mut [u8]) -> Result<usize, Un
 {
     let mut done = 0;
     while done < into.len() {
-        match from.read(&mut into[done..]) {
-            Ok(0) => return Ok(done),
-            Ok(n) => done += n,
-            Err(_) => return Err(Unreadable),
+        match from.read(&mut into[done..])? {
+            0 => return Ok(done),
+            n => done += n,
         }
     }
     Ok(done)
@@ -116,7 +121,7 @@ impl<W: io::Write, E: io::Write> Console<W, E> {
     }
 
     pub fn is_open(&self) -> bool
-        ensures { IsTrue result ↔ self.now.output ≡ Output.Open }
+        ensures { IsTrue result ↔ (self.now.output ≡ Output.Open) }
     {
         self.output == Output::Open
     }

@@ -8,7 +8,6 @@ ghost use Rattle.looks.specs.Flags.{flags_of};
 ghost use Rattle.exports.specs.Rendered.{of_walk, of_step, flag_bytes};
 
 use card::Told;
-use looks::FlagsAnswer;
 use volatile::Volatile;
 use walk::Walked;
 
@@ -144,30 +143,25 @@ pub extern "C" fn zhav_run(
 }
 
 // SV, P1, R1 and E1, or 9.
+#[tactic(auto, using(crate::proofs::Shown::as_byte), unfolding(crate::specs::Rendered::flag_bytes, looks::specs::Flags::flags_held, rules::specs::Numbers::numbered, rules::specs::Numbers::refused))]
 #[unsafe(no_mangle)]
 pub extern "C" fn zhav_flags(v: Volatile) -> ZhavFlags
     ensures { result ≡ flag_bytes (flags_of v) }
 {
-    let told = looks::flags(v);
-    match told {
-        FlagsAnswer::Held {
-            sv: sv,
-            p1: p1,
-            r1: r1,
-            e1: e1,
-        } => ZhavFlags {
-            sv: sv as u8,
-            p1: p1 as u8,
-            r1: r1 as u8,
-            e1: e1 as u8,
+    match looks::flags(v) {
+        Ok(held) => ZhavFlags {
+            sv: held.sv as u8,
+            p1: held.p1 as u8,
+            r1: held.r1 as u8,
+            e1: held.e1 as u8,
             refusal: 0,
         },
-        FlagsAnswer::Refused(refusal) => ZhavFlags {
+        Err(refusal) => ZhavFlags {
             sv: 0,
             p1: 0,
             r1: 0,
             e1: 0,
-            refusal: refusal,
+            refusal: refusal.number(),
         },
     }
 }

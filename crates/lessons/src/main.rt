@@ -35,9 +35,7 @@ const WRONG: [&[u8]; 9] = [
 ];
 
 fn read<'a, F: Files>(files: &F, path: &str, into: &'a mut [u8]) -> Result<&'a [u8], Unreadable> {
-    let Ok(mut file) = fs::open(files, path) else {
-        return Err(Unreadable);
-    };
+    let mut file = fs::open(files, path)?;
     let n = console::read_full(&mut file, into)?;
     Ok(&into[..n])
 }

@@ -2,8 +2,7 @@
 #![tactic(auto)]
 
 use console::{Console, Standard};
-use maker::Made;
-use rules::Answer;
+use rules::{Answer, Refusal};
 use volatile::Volatile;
 
 const CODE: u16 = 0xa53c;
@@ -25,7 +24,7 @@ struct Card {
 // What a visit showed.
 #[derive(Clone, Copy)]
 struct Seen {
-    refusal: Option<u8>,
+    refusal: Option<Refusal>,
     pin: u8,
     left: u32,
 }
@@ -69,9 +68,9 @@ impl Card {
     // To bit 178, from wherever the card stands.
     fn go_to_178(&mut self) {
         let mut reset = [0u8; 2];
-        maker::reset(false, &mut reset);
+        let _ = maker::reset(false, &mut reset);
         let mut walk = [0u8; 356];
-        maker::walk(false, 178, &mut walk);
+        let _ = maker::walk(false, 178, &mut walk);
         self.send(&reset);
         self.send(&walk);
     }
@@ -91,13 +90,13 @@ impl Card {
 }
 
 // The maker's open for the tries that are left. Where none is, the one for bit 96 all the same, and by what the other is refused.
-fn opening(attempts: u8, steps: &mut [u8]) -> (&[u8], Option<u8>) {
+fn opening(attempts: u8, steps: &mut [u8]) -> (&[u8], Option<Refusal>) {
     match maker::open(false, CODE, attempts, steps) {
-        Made::Wrote(n) => (first(steps, n), None),
-        Made::Refused(k) => match maker::open(false, CODE, 128, steps) {
-            Made::Wrote(n) => (first(steps, n), Some(k)),
-            Made::Refused(_) => (&[], Some(k)),
-        },
+        Ok(n) => (first(steps, n), None),
+        Err(refusal) => {
+            let n = maker::open(false, CODE, 128, steps).unwrap_or(0);
+            (first(steps, n), Some(refusal))
+        }
     }
 }
 
@@ -113,9 +112,9 @@ fn tell(out: &mut Standard, nth: u64, seen: Seen) {
     out.say(b"visit ");
     out.number(nth);
     out.say(b": ");
-    if let Some(k) = seen.refusal {
+    if let Some(refusal) = seen.refusal {
         out.say(b"no try, the step maker refuses by ");
-        out.number(k as u64);
+        out.number(refusal.number() as u64);
         out.say(b"; bit 96 written all the same: ");
     }
     out.say(match seen.pin {

@@ -1,3 +1,4 @@
 pub mod AgainstTable
+pub mod Numbers
 pub mod PastLast
 pub mod Rows

@@ -5,8 +5,7 @@
 use card::Ran;
 use console::{Console, Standard};
 use file::Session;
-use looks::ReasonAnswer;
-use rules::Reason;
+use rules::{Reason, Refusal};
 use volatile::Volatile;
 
 // The reason, and what to do about it.
@@ -35,8 +34,8 @@ fn in_words(r: Reason) -> &'static [u8] {
 }
 
 // The card after its run is never refused.
-fn tell_reason(out: &mut Standard, told: ReasonAnswer) {
-    if let ReasonAnswer::Told(reason) = told {
+fn tell_reason(out: &mut Standard, told: Result<Reason, Refusal>) {
+    if let Ok(reason) = told {
         out.say(b"reason ");
         out.number(looks::number_of(reason) as u64);
         out.say(b", ");
@@ -57,12 +56,12 @@ fn tell_run(out: &mut Standard, ran: Ran, given: usize) {
 fn answer(out: &mut Standard, session: &[u8]) {
     let mut memory = [0u8; rules::BYTES];
     match file::open_session(session, &mut memory) {
-        Session::Refused(refusal) => {
+        Err(refusal) => {
             out.say(b"bad ");
-            out.number(refusal as u64);
+            out.number(refusal.number() as u64);
             out.say(b"\n");
         }
-        Session::Parts { fuses, steps } => {
+        Ok(Session { fuses, steps }) => {
             let section = file::step_section(session, rules::BYTES);
             let mut answers = [0u8; rules::LONGEST];
             let ran = card::run(&mut memory, fuses, Volatile::fresh(), section, &mut answers);
