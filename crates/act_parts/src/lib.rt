@@ -1,57 +1,46 @@
-// The acts at a place of the buffer: each puts its steps there, as far as there is room, and gives back the place after them.
+// The acts as steps in a lent buffer: each puts its steps behind those so far, as far as there is room.
 #![tactic(auto)]
 
-ghost use Rattle.memory.specs.Buffer.{Put};
+ghost use Rattle.memory.specs.Filled.{Filled};
 ghost use Rattle.rules.specs.Maker.{walk, show};
 ghost use Rattle.act_parts.specs.Parts.{up_to_code, use_try};
 
 use levels::CLK;
 use memory::is_set;
+use memory::lent::Filling;
 
 pub mod levels;
 
-pub fn put_walk(fus: bool, n: usize, out: &mut [u8], at: usize) -> usize
-    ensures { Put out.old at (walk fus n) result out.new }
+pub fn put_walk(fus: bool, n: usize, to: &mut Filling)
+    ensures { Filled to.old (walk fus n) to.new }
 {
     let pulse = levels::pulse(CLK, fus);
-    let mut next = at;
-    let mut left = n;
-    while 0 < left {
-        next = memory::put(out, next, &pulse);
-        left -= 1;
+    for _ in 0..n {
+        to.put(&pulse);
     }
-    next
 }
 
-pub fn put_show(fus: bool, width: u32, x: u32, out: &mut [u8], at: usize) -> usize
-    ensures { Put out.old at (show fus width x) result out.new }
+pub fn put_show(fus: bool, width: u32, x: u32, to: &mut Filling)
+    ensures { Filled to.old (show fus width x) to.new }
 {
-    let mut next = at;
-    let mut sent = 0;
-    while sent < width {
-        sent += 1;
-        let bit = levels::bit(fus, is_set(x, width - sent));
-        next = memory::put(out, next, &bit);
+    for k in (0..width).rev() {
+        to.put(&levels::bit(fus, is_set(x, k)));
     }
-    let idle = [levels::idle(fus)];
-    memory::put(out, next, &idle)
+    to.put(&[levels::idle(fus)]);
 }
 
-pub fn put_code(fus: bool, code: u16, out: &mut [u8]) -> usize
-    ensures { Put out.old 0 (up_to_code fus code) result out.new }
+pub fn put_code(fus: bool, code: u16, to: &mut Filling)
+    ensures { Filled to.old (up_to_code fus code) to.new }
 {
-    let reset = levels::reset(fus);
-    let first = memory::put(out, 0, &reset);
-    let there = put_walk(fus, 80, out, first);
-    put_show(fus, 16, code as u32, out, there)
+    to.put(&levels::reset(fus));
+    put_walk(fus, 80, to);
+    put_show(fus, 16, code as u32, to);
 }
 
-pub fn put_try(fus: bool, k: usize, out: &mut [u8], at: usize) -> usize
-    ensures { Put out.old at (use_try fus k) result out.new }
+pub fn put_try(fus: bool, k: usize, to: &mut Filling)
+    ensures { Filled to.old (use_try fus k) to.new }
 {
-    let write = levels::program(fus, false);
-    let erase = levels::program(fus, true);
-    let there = put_walk(fus, k, out, at);
-    let written = memory::put(out, there, &write);
-    memory::put(out, written, &erase)
+    put_walk(fus, k, to);
+    to.put(&levels::program(fus, false));
+    to.put(&levels::program(fus, true));
 }

@@ -74,7 +74,7 @@ fn power_lost(t: Table) -> Table {
 // A write or an erase. The volatile half stays.
 fn program(t: Table, erases: bool, v: Volatile, fill: u8, i: usize, byte: u64) -> Table {
     let mut steps = [0u8; 6];
-    maker::program(is_set(v.lines, volatile::FUS), erases, &mut steps);
+    let _ = maker::program(is_set(v.lines, volatile::FUS), erases, &mut steps);
     run(t, fill, v, &steps, v, i, byte)
 }
 

@@ -3,7 +3,6 @@ use crate::lines::{after_line, line_from};
 use crate::table::Table;
 use rules::Answer;
 use volatile::Volatile;
-use words::Number;
 
 pub(crate) fn refusal(answer: Answer) -> u64 {
     let Answer::Refused(k) = answer else {
@@ -22,11 +21,7 @@ fn step(t: Table, v: Volatile, n: u8, expected: u64) -> Table {
 }
 
 fn first(line: &[u8]) -> u64 {
-    let number = words::numeral(false, words::first_word(line));
-    let Number::Is(n) = number else {
-        return 0;
-    };
-    n
+    words::numeral(false, words::first_word(line)).unwrap_or(0)
 }
 
 // Lines, address and flags; the step; the number of its refusal.
@@ -45,10 +40,9 @@ fn row(t: Table, line: &[u8]) -> Table {
 
 // A head's first word is no number.
 fn head_or_row(t: Table, line: &[u8]) -> Table {
-    let number = words::numeral(false, words::first_word(line));
-    let Number::Is(levels) = number else {
+    if words::numeral(false, words::first_word(line)).is_none() {
         return t.head(line);
-    };
+    }
     row(t, line)
 }
 

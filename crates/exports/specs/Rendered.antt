@@ -1,20 +1,18 @@
 -- Each answer of the card, the maker and the openers as the plain numbers that a bench gets.
-use Rattle.std.specs.Prelude.{ℕ, Bool, not, eqb, Result}
+use Rattle.std.specs.Prelude.{ℕ, Bool, not, eqb, Result, Ok, Err}
 use Rattle.volatile.specs.Packed.{one}
 use Rattle.card.specs.declared.Told.{Told}
 use Rattle.walk.specs.declared.Walked.{Walked}
 use Rattle.looks.specs.declared.HeldFlags.{HeldFlags}
 use Rattle.looks.specs.Flags.{flags_held}
 use Rattle.looks.specs.Reasons.{reason_told}
-use Rattle.maker.specs.declared.Made.{Made}
 use Rattle.maker.specs.Act.{refusal_in as act_refused, count_of}
 use Rattle.rules.specs.declared.Reason.{Reason}
 use Rattle.rules.specs.File.{steps_at}
 use Rattle.rules.specs.Numbers.{refused}
 use Rattle.file.specs.declared.CardFile.{CardFile}
 use Rattle.file.specs.declared.Session.{Session}
-use Rattle.file.specs.declared.Session.TheVariants as session
-use Rattle.file.specs.Opening.{refusal_in_card, card_fuses, refusal_in_session, session_fuses, session_steps}
+use Rattle.file.specs.Opening.{card_fuses, session_fuses, session_steps}
 use Rattle.exports.specs.declared.steps.ZhavStepped.{ZhavStepped}
 use Rattle.exports.specs.declared.steps.ZhavFlags.{ZhavFlags}
 use Rattle.exports.specs.declared.reasons.ZhavWhy.{ZhavWhy}
@@ -46,23 +44,23 @@ abbrev pub is_high : ℕ → Bool
 is_high x = not (eqb x 0)
 
 -- An act: the count, 0 where refused, and the refusal, 0 if none.
-unfoldable pub made_of : Made → ZhavMade
+unfoldable pub made_of : Result ℕ ℕ → ZhavMade
 unfolding count_of act_refused
 made_of a = record { count = count_of a; refusal = act_refused a }
 
 -- A card file: the fuse byte.
-unfoldable pub card_file_of : CardFile → ZhavCard
-unfolding card_fuses refusal_in_card
-card_file_of c = record { fuses = card_fuses c; refusal = refusal_in_card c }
+unfoldable pub card_file_of : Result CardFile ℕ → ZhavCard
+unfolding card_fuses refused
+card_file_of c = record { fuses = card_fuses c; refusal = refused c }
 
 -- A session: the step section as the place where it starts, after the counts, the memory and the fuses, and its count.
-unfoldable pub steps_from : Session → ℕ
-steps_from (session.Parts fuses steps) = steps_at
-steps_from (session.Refused k) = 0
+unfoldable pub steps_from : Result Session ℕ → ℕ
+steps_from (Ok session) = steps_at
+steps_from (Err k) = 0
 
-unfoldable pub session_of : Session → ZhavSession
-unfolding steps_from session_steps session_fuses refusal_in_session
-session_of s = record { first = steps_from s; steps = session_steps s; fuses = session_fuses s; refusal = refusal_in_session s }
+unfoldable pub session_of : Result Session ℕ → ZhavSession
+unfolding steps_from session_steps session_fuses refused
+session_of s = record { first = steps_from s; steps = session_steps s; fuses = session_fuses s; refusal = refused s }
 
 -- The library's version, 0.1.1: major, minor and patch as one number of two digits each.
 abbrev pub version : ℕ

@@ -22,13 +22,14 @@ pub fn report(memory: &mut [u8], fuses: u8, steps: &[u8], given: usize, out: &mu
 }
 
 // What the session program prints of these bytes: `bad N` or the four lines.
+#[tactic(auto, using(crate::proofs::SessionTexts::refused_text, crate::proofs::SessionTexts::opened_text), unfolding(rules::specs::Numbers::numbered, rules::specs::Numbers::refused, file::specs::Opening::in_memory))]
 pub fn session_text(session: &[u8], out: &mut [u8]) -> Text
     ensures text { Made (session_text session.now) out.old result out.new }
 {
     let mut memory = [0u8; rules::BYTES];
     match file::open_session(session, &mut memory) {
-        Session::Refused(refusal) => report::bad(refusal, out),
-        Session::Parts { fuses, steps } => {
+        Err(refusal) => report::bad(refusal.number(), out),
+        Ok(Session { fuses, steps }) => {
             let section = file::step_section(session, rules::BYTES);
             report(&mut memory, fuses, section, steps, out)
         }

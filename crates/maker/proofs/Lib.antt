@@ -2,4 +2,4 @@ pub mod AgainstCases
 mod Acting
 mod Opening
 mod Zeros
-mod Determined
+pub mod Determined

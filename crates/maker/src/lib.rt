@@ -1,108 +1,104 @@
-// The step maker: the reader's acts as steps in a lent buffer, "From idle .. back to idle, FUS kept".
+// The step maker: the reader's acts as steps in a lent buffer, "From idle .. back to idle, FUS kept". An act answers how many steps it
+// wrote, or why it wrote none.
 #![tactic(auto)]
 
-ghost use Rattle.std.specs.Prelude.{◌+◌, ◌*◌, ◌≤◌, ◌≡◌, cond, eqb, ltb};
+ghost use Rattle.std.specs.Prelude.{◌≤◌, ◌<◌, ◌≡◌, MatchResult};
+ghost use Rattle.rules.specs.declared.Refusal.TheVariants as refusal;
 ghost use Rattle.rules.specs.Maker.{reset as reset_steps, walk as walk_steps, show, program as program_steps, blow as blow_steps, open_card};
 ghost use Rattle.rules.specs.Maker.{walk_refusal, open_refusal};
+ghost use Rattle.rules.specs.Numbers.{numbered};
 ghost use Rattle.maker.specs.Act.{Acted};
 
 use act_parts::levels;
+use memory::lent::Filling;
+use rules::Refusal;
 
 // The highest address, as a length.
 const LAST: usize = rules::LAST as usize;
 
-// The result of an act: so many steps written, or a refusal and nothing written.
-#[derive(Clone, Copy)]
-pub enum Made {
-    Wrote(usize),
-    Refused(u8),
+// So many steps, in so much room.
+fn fits(count: usize, room: usize) -> Result<(), Refusal>
+    ensures { MatchResult result (λ _. count ≤ room) (λ e. (e ≡ refusal.NoRoom) × (room < count)) }
+{
+    if room < count {
+        Err(Refusal::NoRoom)
+    } else {
+        Ok(())
+    }
 }
 
 // Steps as they are: those that no act makes, and the acts of a fixed length.
-pub fn raw(steps: &[u8], out: &mut [u8]) -> Made
-    ensures { Acted 0 steps.now out.old result out.new }
+pub fn raw(steps: &[u8], out: &mut [u8]) -> Result<usize, Refusal>
+    ensures { Acted 0 steps.now out.old (numbered result) out.new }
 {
-    if out.len() < steps.len() {
-        return Made::Refused(22);
-    }
-    Made::Wrote(memory::put(out, 0, steps))
+    fits(steps.len(), out.len())?;
+    Ok(memory::put(out, 0, steps))
 }
 
-pub fn reset(fus: bool, out: &mut [u8]) -> Made
-    ensures { Acted 0 (reset_steps fus) out.old result out.new }
+pub fn reset(fus: bool, out: &mut [u8]) -> Result<usize, Refusal>
+    ensures { Acted 0 (reset_steps fus) out.old (numbered result) out.new }
 {
-    let steps = levels::reset(fus);
-    raw(&steps, out)
+    raw(&levels::reset(fus), out)
 }
 
-pub fn walk(fus: bool, n: usize, out: &mut [u8]) -> Made
-    ensures { Acted (walk_refusal n) (walk_steps fus n) out.old result out.new }
+pub fn walk(fus: bool, n: usize, out: &mut [u8]) -> Result<usize, Refusal>
+    ensures { Acted (walk_refusal n) (walk_steps fus n) out.old (numbered result) out.new }
 {
     if LAST < n {
-        return Made::Refused(21);
+        return Err(Refusal::WalkTooLong);
     }
-    if out.len() < 2 * n {
-        return Made::Refused(22);
-    }
-    Made::Wrote(act_parts::put_walk(fus, n, out, 0))
+    fits(2 * n, out.len())?;
+    let mut to = Filling::of(out);
+    act_parts::put_walk(fus, n, &mut to);
+    Ok(to.at)
 }
 
-fn show_bits(fus: bool, width: u32, x: u32, out: &mut [u8]) -> Made
+fn show_bits(fus: bool, width: u32, x: u32, out: &mut [u8]) -> Result<usize, Refusal>
     requires { width ≤ 32 }
-    ensures { Acted 0 (show fus width x) out.old result out.new }
+    ensures { Acted 0 (show fus width x) out.old (numbered result) out.new }
 {
-    if out.len() < 3 * width as usize + 1 {
-        return Made::Refused(22);
-    }
-    Made::Wrote(act_parts::put_show(fus, width, x, out, 0))
+    fits(3 * width as usize + 1, out.len())?;
+    let mut to = Filling::of(out);
+    act_parts::put_show(fus, width, x, &mut to);
+    Ok(to.at)
 }
 
-pub fn show16(fus: bool, code: u16, out: &mut [u8]) -> Made
-    ensures { Acted 0 (show fus 16 code) out.old result out.new }
+// The types say how many bits are shown, as the exported names do: two calls of one line are plainer than one generic in the type.
+pub fn show16(fus: bool, code: u16, out: &mut [u8]) -> Result<usize, Refusal>
+    ensures { Acted 0 (show fus 16 code) out.old (numbered result) out.new }
 {
     show_bits(fus, 16, code as u32, out)
 }
 
-pub fn show32(fus: bool, key: u32, out: &mut [u8]) -> Made
-    ensures { Acted 0 (show fus 32 key) out.old result out.new }
+pub fn show32(fus: bool, key: u32, out: &mut [u8]) -> Result<usize, Refusal>
+    ensures { Acted 0 (show fus 32 key) out.old (numbered result) out.new }
 {
     show_bits(fus, 32, key, out)
 }
 
-pub fn program(fus: bool, d: bool, out: &mut [u8]) -> Made
-    ensures { Acted 0 (program_steps fus d) out.old result out.new }
+pub fn program(fus: bool, d: bool, out: &mut [u8]) -> Result<usize, Refusal>
+    ensures { Acted 0 (program_steps fus d) out.old (numbered result) out.new }
 {
-    let steps = levels::program(fus, d);
-    raw(&steps, out)
+    raw(&levels::program(fus, d), out)
 }
 
-pub fn blow(fus: bool, out: &mut [u8]) -> Made
-    ensures { Acted 0 (blow_steps fus) out.old result out.new }
+pub fn blow(fus: bool, out: &mut [u8]) -> Result<usize, Refusal>
+    ensures { Acted 0 (blow_steps fus) out.old (numbered result) out.new }
 {
-    let steps = levels::blow(fus);
-    raw(&steps, out)
+    raw(&levels::blow(fus), out)
 }
 
-// "Refused in order": 23 comes before 22.
-fn open_refusal(k: usize, room: usize) -> u8
-    requires { k ≤ 8 }
-    ensures { result ≡ cond (eqb k 8) 23 (cond (ltb room (223 + 2 * k)) 22 0) }
+pub fn open(fus: bool, code: u16, attempts: u8, out: &mut [u8]) -> Result<usize, Refusal>
+    ensures { Acted (open_refusal attempts) (open_card fus code attempts) out.old (numbered result) out.new }
 {
-    let count = 223 + 2 * k;
-    if k == 8 {
-        return 23;
+    // "Refused in order": 23 comes before 22.
+    if attempts == 0 {
+        return Err(Refusal::NoTryLeft);
     }
-    if room < count { 22 } else { 0 }
-}
-
-pub fn open(fus: bool, code: u16, attempts: u8, out: &mut [u8]) -> Made
-    ensures { Acted (open_refusal attempts) (open_card fus code attempts) out.old result out.new }
-{
-    let k = u8::leading_zeros(attempts) as usize;
-    let refused = open_refusal(k, out.len());
-    if refused != 0 {
-        return Made::Refused(refused);
-    }
-    let shown = act_parts::put_code(fus, code, out);
-    Made::Wrote(act_parts::put_try(fus, k, out, shown))
+    let k = attempts.leading_zeros() as usize;
+    fits(223 + 2 * k, out.len())?;
+    let mut to = Filling::of(out);
+    act_parts::put_code(fus, code, &mut to);
+    act_parts::put_try(fus, k, &mut to);
+    Ok(to.at)
 }

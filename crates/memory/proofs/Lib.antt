@@ -3,3 +3,4 @@ pub mod Arms
 pub mod Laws
 pub mod Buffer
 pub mod Determined
+pub mod Filled

@@ -1,2 +1,3 @@
 pub mod Image
 pub mod Buffer
+pub mod Filled

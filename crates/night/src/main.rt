@@ -2,8 +2,7 @@
 #![tactic(auto)]
 
 use console::Output;
-use maker::Made;
-use rules::Answer;
+use rules::{Answer, Refusal};
 use std::io::Write;
 use volatile::Volatile;
 
@@ -22,17 +21,17 @@ struct Halves {
     volatile: Volatile,
 }
 
-// How many steps the maker's open has, and the number by which it was refused, 0 if it was not.
+// How many steps the maker's open has, and why it was refused, if it was.
 #[derive(Clone, Copy)]
 struct Opening {
     count: usize,
-    refusal: u8,
+    refusal: Option<Refusal>,
 }
 
 // What a visit showed, and the card behind it.
 #[derive(Clone, Copy)]
 struct Seen {
-    refusal: u8,
+    refusal: Option<Refusal>,
     pin: u8,
     left: u32,
     halves: Halves,
@@ -61,33 +60,24 @@ fn pin(memory: &mut [u8], halves: Halves) -> u8 {
 // To bit 178, from wherever the card stands.
 fn go_to_178(memory: &mut [u8], halves: Halves) -> Halves {
     let mut reset = [0u8; 2];
-    maker::reset(false, &mut reset);
+    let _ = maker::reset(false, &mut reset);
     let mut walk = [0u8; 356];
-    maker::walk(false, 178, &mut walk);
+    let _ = maker::walk(false, 178, &mut walk);
     let at_0 = send(memory, halves, &reset);
     send(memory, at_0, &walk)
 }
 
-fn count(made: Made) -> usize {
-    let Made::Wrote(n) = made else {
-        return 0;
-    };
-    n
-}
-
 // The maker's open for the tries that are left. Where none is, the one for bit 96 all the same.
 fn open_steps(attempts: u8, steps: &mut [u8]) -> Opening {
-    let made = maker::open(false, CODE, attempts, steps);
-    let Made::Refused(k) = made else {
-        return Opening {
-            count: count(made),
-            refusal: 0,
-        };
-    };
-    let at_96 = maker::open(false, CODE, 128, steps);
-    Opening {
-        count: count(at_96),
-        refusal: k,
+    match maker::open(false, CODE, attempts, steps) {
+        Ok(count) => Opening {
+            count,
+            refusal: None,
+        },
+        Err(refusal) => Opening {
+            count: maker::open(false, CODE, 128, steps).unwrap_or(0),
+            refusal: Some(refusal),
+        },
     }
 }
 
@@ -120,13 +110,13 @@ fn visit(memory: &mut [u8; 174], halves: Halves, off: usize) -> Seen {
     }
 }
 
-fn tell_refusal<W: Write>(to: &mut W, out: Output, k: u8) -> Output {
-    if k == 0 {
+fn tell_refusal<W: Write>(to: &mut W, out: Output, refusal: Option<Refusal>) -> Output {
+    let Some(refusal) = refusal else {
         return out;
-    }
+    };
     let out = out
         .say(to, b"no try, the step maker refuses by ")
-        .number(to, k as u64);
+        .number(to, refusal.number() as u64);
     out.say(to, b"; bit 96 written all the same: ")
 }
 

@@ -2,7 +2,6 @@
 #![tactic(auto)]
 
 ghost use Rattle.std.specs.Prelude.{◌≡◌};
-ghost use Rattle.file.specs.Opening.{refusal_in_session};
 ghost use Rattle.report.specs.Buffer.{Made};
 ghost use Rattle.fresh_run.specs.FreshRun.{session_text};
 
@@ -10,22 +9,16 @@ use console::{Input, Output};
 use file::Session;
 use report::Text;
 
-fn refusal(opened: Session) -> u8
-    ensures { result ≡ refusal_in_session opened }
-{
-    let Session::Refused(k) = opened else {
-        return 0;
-    };
-    k
-}
-
+// As `fresh_run::session_text`: here too, since "The opener's enum, holding fuses and step count as numbers, is taken apart by `let .. else`
+// in the session program".
+#[tactic(auto, using(fresh_run::proofs::SessionTexts::refused_text, fresh_run::proofs::SessionTexts::opened_text), unfolding(rules::specs::Numbers::numbered, rules::specs::Numbers::refused, file::specs::Opening::in_memory))]
 fn answer(session: &[u8], out: &mut [u8]) -> Text
     ensures { Made (session_text session.now) out.old result out.new }
 {
     let mut memory = [0u8; rules::BYTES];
     let opened = file::open_session(session, &mut memory);
-    let Session::Parts { fuses, steps } = opened else {
-        return report::bad(refusal(opened), out);
+    let Ok(Session { fuses, steps }) = opened else {
+        return report::bad(opened.unwrap_err().number(), out);
     };
     let section = file::step_section(session, rules::BYTES);
     fresh_run::report(&mut memory, fuses, section, steps, out)

@@ -13,8 +13,7 @@ use lib.Seq.{length-take-le, take_at}
 use Rattle.rules.specs.Maker.{act_refusal}
 use Rattle.rules.specs.Refusals.{longest}
 use Rattle.maker.specs.Act.{made, in_buffer, Acted}
-use Rattle.maker.specs.declared.Made.{Made}
-use Rattle.maker.specs.declared.Made.TheVariants.{Wrote, Refused}
+use Rattle.std.specs.Prelude.{Result, Ok, Err}
 use Rattle.text_lines.specs.declared.Act.{Act}
 use Rattle.text_steps.specs.Steps.{steps_of, refusal_of}
 use Rattle.text.specs.Sheet.{present, added, attempts_at, driven}
@@ -36,13 +35,13 @@ fits refusal room xs e = ltb-false room (length xs) (go (eqb refusal 0) (ltb roo
     go true true p q = absurd (lt_irrefl 0 (omega (arith, q)))
     go false u p q = absurd (eqb-false refusal 0 p q)
 
-pub wrote : (refusal room n : ℕ) (xs : List ℕ) → made refusal xs room ≡ Wrote n → Fitted xs room n
+pub wrote : (refusal room n : ℕ) (xs : List ℕ) → made refusal xs room ≡ Ok n → Fitted xs room n
 unfolding made
 wrote refusal room n xs e = go (eqb (act_refusal refusal xs room) 0) refl e
   where
     go :
         (t : Bool) → eqb (act_refusal refusal xs room) 0 ≡ t
-        → cond t (Wrote (length xs)) (Refused (act_refusal refusal xs room)) ≡ Wrote n → Fitted xs room n
+        → cond t (Ok (length xs)) (Err (act_refusal refusal xs room)) ≡ Ok n → Fitted xs room n
     go true z q = record { counted = cc; roomy = fits refusal room xs (eqb-true (act_refusal refusal xs room) 0 z) }
     go false z q = let w : ◌≡◌ {A = ℕ} 0 1 = cc in absurd (eqb-false 0 1 refl w)
 
@@ -67,19 +66,19 @@ module _ (act : Act) (p : Progress) (image steps : List ℕ) where
   act_refusal_lem = refusal_of act (present (take p.count steps)) (get_or image attempts_at 0)
 
 -- What the maker did there: it answered r and left `after`.
-pub record Turn (act : Act) (p : Progress) (image steps : List ℕ) (r : Made) (after : List ℕ) : Type 0 where
+pub record Turn (act : Act) (p : Progress) (image steps : List ℕ) (r : Result ℕ ℕ) (after : List ℕ) : Type 0 where
   pub full : length steps ≡ longest
   pub within : p.count ≤ length steps
   pub acted : Acted (act_refusal_lem act p image steps) (act_steps act p image steps) (free p steps) r after
 
 pub turn :
-    {act : Act} (p : Progress) (image : List ℕ) {steps after : List ℕ} {lines : ℕ} {r : Made}
+    {act : Act} (p : Progress) (image : List ℕ) {steps after : List ℕ} {lines : ℕ} {r : Result ℕ ℕ}
     → length steps ≡ longest → p.count ≤ length steps → lines ≡ present (take p.count steps)
     → (let attempts = get_or image attempts_at 0 in Acted (refusal_of act lines attempts) (steps_of act lines attempts) (free p steps) r after)
     → Turn act p image steps r after
 turn p image f w e a = record { full = f; within = w; acted = rw e at a }
 
-module _ {act : Act} {p : Progress} {image steps : List ℕ} {r : Made} {after : List ℕ} (t : Turn act p image steps r after) where
+module _ {act : Act} {p : Progress} {image steps : List ℕ} {r : Result ℕ ℕ} {after : List ℕ} (t : Turn act p image steps r after) where
   sofar : length (take p.count steps) ≡ p.count
   sofar = length-take-le p.count steps t.within
 
@@ -91,7 +90,7 @@ module _ {act : Act} {p : Progress} {image steps : List ℕ} {r : Made} {after :
   unfolding driven sheet_of
   reached = rw (sofar, t.acted.answer, free_length) refl
 
-  module _ (n : ℕ) (e : r ≡ Wrote n) where
+  module _ (n : ℕ) (e : r ≡ Ok n) where
     fitted : Fitted (act_steps act p image steps) (length (free p steps)) n
     fitted = wrote _ _ n _ (sym t.acted.answer ∙ e)
 
@@ -117,6 +116,6 @@ module _ {act : Act} {p : Progress} {image steps : List ℕ} {r : Made} {after :
         }
 
   pub came_to_a_stop :
-      {k : ℕ} (image' steps' : List ℕ) → r ≡ Refused k → Came (driven act (sheet_of p image steps)) (Stopped k) image' steps'
+      {k : ℕ} (image' steps' : List ℕ) → r ≡ Err k → Came (driven act (sheet_of p image steps)) (Stopped k) image' steps'
   unfolding added outcome_of count_of
   came_to_a_stop image' steps' e = record { outcome = sym (reached ∙ rw e refl); within = omega arith }

@@ -10,19 +10,18 @@ use lib.Seq.{take_at, drop-append-add, drop-drop}
 use Rattle.rules.specs.Maker.{act_refusal}
 use Rattle.words.proofs.Lines.{rest_of}
 use Rattle.maker.specs.Act.{made, in_buffer, Acted}
-use Rattle.maker.specs.declared.Made.{Made}
-use Rattle.maker.specs.declared.Made.TheVariants.{Wrote}
+use Rattle.std.specs.Prelude.{Result, Ok}
 use Rattle.memory.specs.Image.{bytes}
 use Rattle.rules.specs.File.{steps_at}
 use Rattle.text.specs.Meaning.{session_of, Written}
 use Rattle.text.specs.Progress.{Put}
 
-roomy : (xs : List ℕ) (room : ℕ) → length xs ≤ room → made 0 xs room ≡ Wrote (length xs)
+roomy : (xs : List ℕ) (room : ℕ) → length xs ≤ room → made 0 xs room ≡ Ok (length xs)
 unfolding made act_refusal
 roomy xs room h = rw (le-ltb room (length xs) h) refl
 
 pub put_at :
-    (xs l after : List ℕ) (at : ℕ) (r : Made) → at + length xs ≤ length l → Acted 0 xs (mid_of at (length l - at) l) r after
+    (xs l after : List ℕ) (at : ℕ) (r : Result ℕ ℕ) → at + length xs ≤ length l → Acted 0 xs (mid_of at (length l - at) l) r after
     → put_mid at (length l - at) l after ≡ take at l ++ (xs ++ drop (at + length xs) l)
 unfolding in_buffer
 put_at xs l after at r h a =

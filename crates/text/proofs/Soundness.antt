@@ -12,8 +12,7 @@ use Rattle.memory.specs.Image.{bytes}
 use Rattle.memory.proofs.Laws.{length_filled}
 use Rattle.rules.specs.Refusals.{longest}
 use Rattle.maker.specs.Act.{made}
-use Rattle.maker.specs.declared.Made.{Made}
-use Rattle.maker.specs.declared.Made.TheVariants as maker
+use Rattle.std.specs.Prelude.{Result, Ok, Err}
 use Rattle.words.specs.Scan.{lines_of}
 use Rattle.text_lines.specs.Orders.{all_ones, line_order}
 use Rattle.text_lines.specs.declared.Change.{Change}
@@ -49,14 +48,14 @@ module _ (s : Sheet) (h : Sound s) where
   changed_sound (Fuses n) f = record { image = h.image; fuses = f.fuses; steps = h.steps }
 
   added_sound :
-      (refusal : ℕ) (xs : List ℕ) (m : Made) → made refusal xs (longest - length s.steps) ≡ m → SoundOutcome (added m xs s)
+      (refusal : ℕ) (xs : List ℕ) (m : Result ℕ ℕ) → made refusal xs (longest - length s.steps) ≡ m → SoundOutcome (added m xs s)
   unfolding added
-  added_sound refusal xs (maker.Wrote n) e =
+  added_sound refusal xs (Ok n) e =
       let f = wrote refusal (longest - length s.steps) n xs e in
       let t : Sound (record { image = s.image; fuses = s.fuses; steps = s.steps ++ xs }) =
       record { image = h.image; fuses = h.fuses; steps = omega (arith, length-append s.steps xs, f.roomy, h.steps) } in
       went t
-  added_sound refusal xs (maker.Refused k) e = stopped
+  added_sound refusal xs (Err k) e = stopped
 
   follow_sound : (o : Order) → Fitting o → SoundOutcome (follow o s)
   unfolding follow driven

@@ -1,11 +1,9 @@
 -- What a text has set down so far, and what an order adds to it.
-use Rattle.std.specs.Prelude.{ℕ, zero, suc, ◌-◌, ◌*◌, ◌/◌, ◌%◌, ◌^◌, cond, List, [], ◌∷◌, ◌++◌, eqb, length, get_or, replicate}
+use Rattle.std.specs.Prelude.{ℕ, zero, suc, ◌-◌, ◌*◌, ◌/◌, ◌%◌, ◌^◌, cond, List, [], ◌∷◌, ◌++◌, eqb, length, get_or, replicate, Result, Ok, Err}
 use Rattle.std.proofs.lemmas.List.Edits.{sets}
 use Rattle.memory.specs.Image.{bytes, filled}
 use Rattle.rules.specs.Refusals.{longest}
 use Rattle.maker.specs.Act.{made}
-use Rattle.maker.specs.declared.Made.{Made}
-use Rattle.maker.specs.declared.Made.TheVariants as maker
 use Rattle.text_lines.specs.Orders.{all_ones, all_unblown}
 use Rattle.text_lines.specs.declared.Change.{Change}
 use Rattle.text_lines.specs.declared.Change.TheVariants.{Fill, Bytes, Fuses}
@@ -59,9 +57,9 @@ pub data Outcome : Type 0 where
   Stopped : ℕ → Outcome
 
 -- What the maker made is added to the steps.
-unfoldable pub added : Made → List ℕ → Sheet → Outcome
-added (maker.Wrote n) steps s = Went (record { image = s.image; fuses = s.fuses; steps = s.steps ++ steps })
-added (maker.Refused refusal) steps s = Stopped refusal
+unfoldable pub added : Result ℕ ℕ → List ℕ → Sheet → Outcome
+added (Ok n) steps s = Went (record { image = s.image; fuses = s.fuses; steps = s.steps ++ steps })
+added (Err refusal) steps s = Stopped refusal
 
 -- The byte of bits 96 to 103.
 abbrev pub attempts_at : ℕ

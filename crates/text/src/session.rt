@@ -13,7 +13,7 @@ fn put(bytes: &[u8], out: &mut [u8], at: usize) -> usize
     requires { at + length bytes.now ≤ length out.old }
     ensures { Put bytes.now out.old at result out.new }
 {
-    maker::raw(bytes, &mut out[at..]);
+    let _ = maker::raw(bytes, &mut out[at..]);
     at + bytes.len()
 }
 

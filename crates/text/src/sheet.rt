@@ -6,7 +6,6 @@ ghost use Rattle.rules.specs.Refusals.{longest};
 ghost use Rattle.text.specs.Sheet.{bytes_of, present as present_of, driven, follow as follow_of};
 ghost use Rattle.text.specs.Progress.{sheet_of, Came, Changed};
 
-use maker::Made;
 use text_lines::{Act, Change, Order};
 
 #[derive(Clone, Copy)]
@@ -108,11 +107,11 @@ fn drive(act: Act, p: Progress, image: &[u8], steps: &mut [u8]) -> Step
     let lines = present(&steps[..count]);
     let made = text_steps::make(act, lines, image[ATTEMPTS], &mut steps[count..]);
     match made {
-        Made::Wrote(n) => Step::On(Progress {
+        Ok(n) => Step::On(Progress {
             fuses: p.fuses,
             count: count + n,
         }),
-        Made::Refused(refusal) => Step::Stopped(refusal),
+        Err(fault) => Step::Stopped(fault.number()),
     }
 }
 

@@ -6,44 +6,43 @@ use mathlib.Core.List.{List}
 use native.Mathlib.Omega.{arith}
 use borrow.Author.Tests.{ltb-false}
 use lib.Dec.{ltb}
-use Rattle.words.specs.declared.Number.{Number}
-use Rattle.words.specs.declared.Number.TheVariants.{Is, Not}
+use Rattle.std.specs.Prelude.{Option, Some, None, Result, Ok, Err}
 use Rattle.text_lines.specs.Orders.{beyond, all_unblown}
 use Rattle.text_lines.specs.Orders.{alone, either, named, with_number, walk_order, lines_order, fuses_order, show_order, open_order}
 use Rattle.text_lines.specs.Orders.{numbered, bytes_order, byte_order, zone_order, order_of, words_order, line_order}
 use Rattle.text_lines.specs.declared.Change.TheVariants.{Fill, Bytes, Fuses}
 use Rattle.text_lines.specs.declared.Order.{Order}
-use Rattle.text_lines.specs.declared.Order.TheVariants.{Nothing, Image, Drive, Wrong}
+use Rattle.text_lines.specs.declared.Order.TheVariants.{Nothing, Image, Drive}
 
--- The fuse byte that an order gives, 0 where it gives none.
-abbrev pub given : Order → ℕ
-given Nothing = 0
-given (Image (Fill first count v)) = 0
-given (Image (Bytes first count x)) = 0
-given (Image (Fuses n)) = n
-given (Drive act) = 0
-given (Wrong k) = 0
+-- The fuse byte that a line gives, 0 where it gives none.
+abbrev pub given : Result Order ℕ → ℕ
+given (Ok Nothing) = 0
+given (Ok (Image (Fill first count v))) = 0
+given (Ok (Image (Bytes first count x))) = 0
+given (Ok (Image (Fuses n))) = n
+given (Ok (Drive act)) = 0
+given (Err k) = 0
 
-pub record Fitting (o : Order) : Type 0 where
+pub record Fitting (o : Result Order ℕ) : Type 0 where
   pub fuses : given o ≤ all_unblown
 
-both : (t : Bool) (x y : Order) → Fitting x → Fitting y → Fitting (cond t x y)
+both : (t : Bool) (x y : Result Order ℕ) → Fitting x → Fitting y → Fitting (cond t x y)
 both true x y p q = p
 both false x y p q = q
 
-each : (m : Number) (f : ℕ → Order) → ((n : ℕ) → Fitting (f n)) → Fitting (with_number m f)
+each : (m : Option ℕ) (f : ℕ → Result Order ℕ) → ((n : ℕ) → Fitting (f n)) → Fitting (with_number m f)
 unfolding with_number
-each (Is n) f p = p n
-each Not f p = record { fuses = omega arith }
+each (Some n) f p = p n
+each None f p = record { fuses = omega arith }
 
-none : {o : Order} → given o ≡ 0 → Fitting o
+none : {o : Result Order ℕ} → given o ≡ 0 → Fitting o
 none e = record { fuses = omega (arith, e) }
 
 -- A fuse byte over 7 is wrong.
-small : (n : ℕ) → Fitting (cond (ltb all_unblown n) (Wrong beyond) (Image (Fuses n)))
+small : (n : ℕ) → Fitting (cond (ltb all_unblown n) (Err beyond) (Ok (Image (Fuses n))))
 small n = go (ltb all_unblown n) refl
   where
-    go : (t : Bool) → ltb all_unblown n ≡ t → Fitting (cond t (Wrong beyond) (Image (Fuses n)))
+    go : (t : Bool) → ltb all_unblown n ≡ t → Fitting (cond t (Err beyond) (Ok (Image (Fuses n))))
     go true e = none refl
     go false e = record { fuses = ltb-false all_unblown n e }
 

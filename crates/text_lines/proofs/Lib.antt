@@ -1,3 +1,5 @@
+pub mod ByNumber
 pub mod Fitting
-mod SecondWord
+mod Choices
+mod Counted
 mod ZoneBytes

@@ -1,3 +1,2 @@
 pub mod Orders
-pub mod ByDigits
 pub mod Faults

@@ -1,12 +1,14 @@
 // A line of text as what it orders: a change of the image, or an act of the reader.
 #![tactic(auto)]
 
-ghost use Rattle.std.specs.Prelude.{◌≤◌, ◌≡◌, get_or};
-ghost use Rattle.text_lines.specs.Orders.{word_count, alone as alone_of, either as either_of, named as named_of, numbered as numbered_of};
-ghost use Rattle.text_lines.specs.ByDigits.{decimal as decimal_of, coded as coded_of};
+ghost use Rattle.std.specs.Prelude.{◌≡◌, get_or};
+ghost use Rattle.words.specs.Names.{verb_row, zone_row, row, row_of, row_in};
+ghost use Rattle.text_lines.specs.Faults.{numbered};
+ghost use Rattle.text_lines.specs.Orders.{word_count, words_of, either as either_of, walk_order, limited, lines_order, fuses_order, show_order, open_order};
 ghost use Rattle.text_lines.specs.Orders.{firsts, sizes, bytes_order, byte_order, zone_order, order_of, words_order, line_order};
 
-use words::{Number, Stop};
+use faults::Fault;
+use words::{Level, Name, Stop, Verb, Zone};
 
 pub mod faults;
 
@@ -45,95 +47,16 @@ pub enum Order {
     Nothing,
     Image(Change),
     Drive(Act),
-    Wrong(u8),
 }
-
-// Rows of the table of names.
-const RESET: usize = 0;
-
-const WRITE: usize = 1;
-
-const ERASE: usize = 2;
-
-const POWER: usize = 4;
-
-const FUS: usize = 5;
-
-const IMAGE: usize = 6;
-
-const WALK: usize = 8;
-
-const LINES: usize = 9;
-
-const FUSES: usize = 10;
-
-const SHOW: usize = 11;
-
-const BYTE: usize = 13;
-
-const ZONE: usize = 14;
-
-const ON: usize = 15;
-
-const OFF: usize = 16;
-
-const HIGH: usize = 17;
-
-const LOW: usize = 18;
-
-const ONES: usize = 19;
-
-const ZEROS: usize = 20;
-
-const FZ: usize = 21;
-
-const MFZ: usize = 30;
 
 // A byte of ones.
 const ALL_ONES: u8 = 255;
 
 // The highest step: all lines high.
-const ALL_HIGH: u64 = 63;
+const ALL_HIGH: u8 = 63;
 
 // The highest fuse byte: all fuses unblown.
-const ALL_UNBLOWN: u64 = 7;
-
-// No line starts with this word.
-const UNKNOWN: u8 = 71;
-
-// Other words after the first than this line takes.
-const UNFIT: u8 = 72;
-
-// A number that is too large for its place.
-const BEYOND: u8 = 73;
-
-fn alone(verb: usize) -> Order
-    ensures { result ≡ alone_of verb }
-{
-    if verb == RESET {
-        return Order::Drive(Act::Reset);
-    }
-    if verb == WRITE {
-        return Order::Drive(Act::Program(false));
-    }
-    if verb == ERASE {
-        return Order::Drive(Act::Program(true));
-    }
-    Order::Drive(Act::Blow)
-}
-
-// One of two words.
-fn either(object: usize, a: usize, b: usize, this: Order, that: Order) -> Order
-    ensures { result ≡ either_of object a b this that }
-{
-    if object == a {
-        return this;
-    }
-    if object == b {
-        return that;
-    }
-    Order::Wrong(UNFIT)
-}
+const ALL_UNBLOWN: u8 = 7;
 
 fn filling(first: usize, count: usize, value: u8) -> Order
     ensures { result ≡ Order.Image (Change.Fill first count value) }
@@ -145,239 +68,242 @@ fn filling(first: usize, count: usize, value: u8) -> Order
     })
 }
 
-fn named(verb: usize, object: usize) -> Order
-    ensures { result ≡ named_of verb object }
+// One of two words, each with its order.
+#[tactic(auto, using(words::proofs::Rows::apart), unfolding(crate::specs::Faults::numbered, crate::specs::Orders::either, words::specs::Names::row_in))]
+fn either(object: &[u8], this: (Name, Order), that: (Name, Order)) -> Result<Order, Fault>
+    ensures { numbered result ≡ either_of (row_of object.now) (row this.0) (row that.0) this.1 that.1 }
 {
-    if verb == POWER {
-        return either(
-            object,
-            ON,
-            OFF,
-            Order::Drive(Act::Power(true)),
-            Order::Drive(Act::Power(false)),
-        );
+    let name = words::name_of(object).ok_or(Fault::Unfit)?;
+    if name == this.0 {
+        return Ok(this.1);
     }
-    if verb == FUS {
-        return either(
-            object,
-            HIGH,
-            LOW,
-            Order::Drive(Act::Fus(true)),
-            Order::Drive(Act::Fus(false)),
-        );
+    if name == that.0 {
+        return Ok(that.1);
     }
-    if verb == IMAGE {
-        return either(
-            object,
-            ONES,
-            ZEROS,
-            filling(0, rules::BYTES, ALL_ONES),
-            filling(0, rules::BYTES, 0),
-        );
-    }
-    either(
-        object,
-        WRITE,
-        ERASE,
-        Order::Drive(Act::Cut(false)),
-        Order::Drive(Act::Cut(true)),
-    )
+    Err(Fault::Unfit)
 }
 
-// `walk`, `lines` and `fuses`.
-fn decimal(verb: usize, w: &[u8]) -> Order
-    ensures { result ≡ decimal_of verb w.now }
+#[tactic(auto, unfolding(crate::specs::Faults::numbered, crate::specs::Orders::walk_order))]
+fn walk(w: &[u8]) -> Result<Order, Fault>
+    ensures { numbered result ≡ walk_order w.now }
 {
-    let Number::Is(n) = words::numeral(false, w) else {
-        return Order::Wrong(UNFIT);
-    };
-    if verb == WALK {
-        return Order::Drive(Act::Walk(n as usize));
-    }
-    if verb == LINES {
-        if ALL_HIGH < n {
-            return Order::Wrong(BEYOND);
-        }
-        return Order::Drive(Act::Lines(n as u8));
-    }
-    if ALL_UNBLOWN < n {
-        return Order::Wrong(BEYOND);
-    }
-    Order::Image(Change::Fuses(n as u8))
+    let count = words::numeral(false, w).ok_or(Fault::Unfit)?;
+    Ok(Order::Drive(Act::Walk(count as usize)))
 }
 
-// `show` and `open`.
-fn coded(verb: usize, w: &[u8]) -> Order
-    ensures { result ≡ coded_of verb w.now }
+// A decimal number that is not over the limit.
+#[tactic(auto, unfolding(crate::specs::Faults::numbered, crate::specs::Orders::limited))]
+fn at_most(limit: u8, w: &[u8]) -> Result<u8, Fault>
+    ensures { numbered result ≡ limited limit w.now }
 {
-    let Number::Is(n) = words::numeral(true, w) else {
-        return Order::Wrong(UNFIT);
-    };
-    if w.len() == 4 {
-        let code = n as u16;
-        if verb == SHOW {
-            return Order::Drive(Act::Show16(code));
-        }
-        return Order::Drive(Act::Open(code));
+    let n = words::numeral(false, w).ok_or(Fault::Unfit)?;
+    if u64::from(limit) < n {
+        return Err(Fault::Beyond);
     }
-    if w.len() == 8 {
-        if verb == SHOW {
-            return Order::Drive(Act::Show32(n as u32));
-        }
-    }
-    Order::Wrong(UNFIT)
+    Ok(n as u8)
 }
 
-fn numbered(verb: usize, w: &[u8]) -> Order
-    ensures { result ≡ numbered_of verb w.now }
+fn lines(w: &[u8]) -> Result<Order, Fault>
+    ensures { numbered result ≡ lines_order w.now }
 {
-    if (verb == WALK) | ((verb == LINES) | (verb == FUSES)) {
-        return decimal(verb, w);
+    Ok(Order::Drive(Act::Lines(at_most(ALL_HIGH, w)?)))
+}
+
+fn fuses(w: &[u8]) -> Result<Order, Fault>
+    ensures { numbered result ≡ fuses_order w.now }
+{
+    Ok(Order::Image(Change::Fuses(at_most(ALL_UNBLOWN, w)?)))
+}
+
+#[tactic(auto, unfolding(crate::specs::Faults::numbered, crate::specs::Orders::show_order))]
+fn show(w: &[u8]) -> Result<Order, Fault>
+    ensures { numbered result ≡ show_order w.now }
+{
+    let code = words::numeral(true, w).ok_or(Fault::Unfit)?;
+    match w.len() {
+        4 => Ok(Order::Drive(Act::Show16(code as u16))),
+        8 => Ok(Order::Drive(Act::Show32(code as u32))),
+        _ => Err(Fault::Unfit),
     }
-    coded(verb, w)
+}
+
+#[tactic(auto, unfolding(crate::specs::Faults::numbered, crate::specs::Orders::open_order))]
+fn open_by(w: &[u8]) -> Result<Order, Fault>
+    ensures { numbered result ≡ open_order w.now }
+{
+    let code = words::numeral(true, w).ok_or(Fault::Unfit)?;
+    match w.len() {
+        4 => Ok(Order::Drive(Act::Open(code as u16))),
+        _ => Err(Fault::Unfit),
+    }
 }
 
 // The bytes of a word of hex digits from byte `first` on, where there is room for so many.
-fn bytes(first: usize, room: usize, w: &[u8]) -> Order
-    ensures { result ≡ bytes_order first room w.now }
+#[tactic(auto, unfolding(crate::specs::Faults::numbered, crate::specs::Orders::bytes_order))]
+fn bytes(first: usize, room: usize, w: &[u8]) -> Result<Order, Fault>
+    ensures { numbered result ≡ bytes_order first room w.now }
 {
-    let Number::Is(value) = words::numeral(true, w) else {
-        return Order::Wrong(UNFIT);
-    };
+    let value = words::numeral(true, w).ok_or(Fault::Unfit)?;
     let digits = w.len();
     if digits % 2 == 1 {
-        return Order::Wrong(UNFIT);
+        return Err(Fault::Unfit);
     }
     let count = digits / 2;
     if room < count {
-        return Order::Wrong(BEYOND);
+        return Err(Fault::Beyond);
     }
-    Order::Image(Change::Bytes {
+    Ok(Order::Image(Change::Bytes {
         first,
         count,
         value,
-    })
+    }))
 }
 
-fn byte(object: &[u8], w: &[u8]) -> Order
-    ensures { result ≡ byte_order object.now w.now }
+#[tactic(auto, unfolding(crate::specs::Faults::numbered, crate::specs::Orders::byte_order))]
+fn byte(object: &[u8], w: &[u8]) -> Result<Order, Fault>
+    ensures { numbered result ≡ byte_order object.now w.now }
 {
-    let Number::Is(at) = words::numeral(false, object) else {
-        return Order::Wrong(UNFIT);
-    };
-    let first = at as usize;
+    let first = words::numeral(false, object).ok_or(Fault::Unfit)? as usize;
     if rules::BYTES < first {
-        return Order::Wrong(BEYOND);
+        return Err(Fault::Beyond);
     }
     bytes(first, rules::BYTES - first, w)
 }
 
-// The zones' first bytes and how many they have, in the order of the table of names.
-fn first_byte(z: usize) -> usize
-    requires { z ≤ 9 }
-    ensures { result ≡ get_or firsts z 0 }
+// A zone's first byte, and how many it has.
+#[tactic(auto, unfolding(words::specs::Names::zone_row))]
+fn place(zone: Zone) -> (usize, usize)
+    ensures first { result.0 ≡ get_or firsts (zone_row zone) 0 }
+    ensures count { result.1 ≡ get_or sizes (zone_row zone) 0 }
 {
-    let table: [usize; 10] = [0, 2, 10, 12, 14, 22, 150, 154, 170, 172];
-    table[z]
+    match zone {
+        Zone::FZ => (0, 2),
+        Zone::IZ => (2, 8),
+        Zone::SC => (10, 2),
+        Zone::SCAC => (12, 2),
+        Zone::CPZ => (14, 8),
+        Zone::AZ => (22, 128),
+        Zone::EZ => (150, 4),
+        Zone::EC => (154, 16),
+        Zone::MTZ => (170, 2),
+        Zone::MFZ => (172, 2),
+    }
 }
 
-fn byte_count(z: usize) -> usize
-    requires { z ≤ 9 }
-    ensures { result ≡ get_or sizes z 0 }
+#[tactic(auto, unfolding(crate::specs::Faults::numbered, crate::specs::Orders::zone_order, words::specs::Names::row_in))]
+fn zone(object: &[u8], w: &[u8]) -> Result<Order, Fault>
+    ensures { numbered result ≡ zone_order (row_of object.now) w.now }
 {
-    let table: [usize; 10] = [2, 8, 2, 2, 8, 128, 4, 16, 2, 2];
-    table[z]
+    let zone = match words::name_of(object) {
+        Some(Name::Zone(zone)) => zone,
+        Some(Name::Verb(_) | Name::Level(_)) | None => return Err(Fault::Unfit),
+    };
+    let (first, count) = place(zone);
+    let ones = (Name::Level(Level::Ones), filling(first, count, ALL_ONES));
+    let zeros = (Name::Level(Level::Zeros), filling(first, count, 0));
+    either(w, ones, zeros).or_else(|_| bytes(first, count, w))
 }
 
-fn zone(object: usize, w: &[u8]) -> Order
-    ensures { result ≡ zone_order object w.now }
+// How many words a line has, by its first one.
+#[tactic(auto, unfolding(words::specs::Names::verb_row, crate::specs::Orders::words_of))]
+fn words_of(verb: Verb) -> usize
+    ensures { result ≡ words_of (verb_row verb) }
 {
-    if object < FZ {
-        return Order::Wrong(UNFIT);
+    match verb {
+        Verb::Reset | Verb::Write | Verb::Erase | Verb::Blow => 1,
+        Verb::Byte | Verb::Zone => 3,
+        _ => 2,
     }
-    if MFZ < object {
-        return Order::Wrong(UNFIT);
-    }
-    let first = first_byte(object - FZ);
-    let count = byte_count(object - FZ);
-    let level = words::row(w);
-    if level == ONES {
-        return filling(first, count, ALL_ONES);
-    }
-    if level == ZEROS {
-        return filling(first, count, 0);
-    }
-    bytes(first, count, w)
 }
 
+// The order of a line that has as many words as its first one says.
+#[tactic(auto, unfolding(words::specs::Names::row, crate::specs::Faults::numbered, crate::specs::Orders::words_of, crate::specs::Orders::order_of, crate::specs::Orders::alone, crate::specs::Orders::named, crate::specs::Orders::numbered))]
+fn obeyed(verb: Verb, object: &[u8], value: &[u8]) -> Result<Order, Fault>
+    ensures { numbered result ≡ order_of (verb_row verb) (words_of (verb_row verb)) object.now value.now }
+{
+    match verb {
+        Verb::Reset => Ok(Order::Drive(Act::Reset)),
+        Verb::Write => Ok(Order::Drive(Act::Program(false))),
+        Verb::Erase => Ok(Order::Drive(Act::Program(true))),
+        Verb::Blow => Ok(Order::Drive(Act::Blow)),
+        Verb::Power => either(
+            object,
+            (Name::Level(Level::On), Order::Drive(Act::Power(true))),
+            (Name::Level(Level::Off), Order::Drive(Act::Power(false))),
+        ),
+        Verb::Fus => either(
+            object,
+            (Name::Level(Level::High), Order::Drive(Act::Fus(true))),
+            (Name::Level(Level::Low), Order::Drive(Act::Fus(false))),
+        ),
+        Verb::Image => either(
+            object,
+            (Name::Level(Level::Ones), filling(0, rules::BYTES, ALL_ONES)),
+            (Name::Level(Level::Zeros), filling(0, rules::BYTES, 0)),
+        ),
+        Verb::Cut => either(
+            object,
+            (Name::Verb(Verb::Write), Order::Drive(Act::Cut(false))),
+            (Name::Verb(Verb::Erase), Order::Drive(Act::Cut(true))),
+        ),
+        Verb::Walk => walk(object),
+        Verb::Lines => lines(object),
+        Verb::Fuses => fuses(object),
+        Verb::Show => show(object),
+        Verb::Open => open_by(object),
+        Verb::Byte => byte(object, value),
+        Verb::Zone => zone(object, value),
+    }
+}
+
+// How many words stand here; 4 stands for any more.
 fn word_count(verb: &[u8], object: &[u8], value: &[u8], more: &[u8]) -> usize
     ensures { result ≡ word_count verb.now object.now value.now more.now }
 {
-    if verb.len() == 0 {
-        return 0;
-    }
-    if object.len() == 0 {
-        return 1;
-    }
-    if value.len() == 0 {
-        return 2;
-    }
-    if more.len() == 0 { 3 } else { 4 }
+    [verb, object, value, more]
+        .iter()
+        .position(|w| w.is_empty())
+        .unwrap_or(4)
 }
 
 // A line's order by its first word, the number of its words, and the words after the first.
-fn ordered(verb: usize, count: usize, object: &[u8], value: &[u8]) -> Order
-    ensures { result ≡ order_of verb count object.now value.now }
+#[tactic(auto, unfolding(crate::specs::Faults::numbered, crate::specs::Orders::order_of, words::specs::Names::row_in))]
+fn ordered(first: Option<Name>, count: usize, object: &[u8], value: &[u8]) -> Result<Order, Fault>
+    ensures { numbered result ≡ order_of (row_in first) count object.now value.now }
 {
     if count == 0 {
-        return Order::Nothing;
+        return Ok(Order::Nothing);
     }
-    if ZONE < verb {
-        return Order::Wrong(UNKNOWN);
+    let verb = match first {
+        Some(Name::Verb(verb)) => verb,
+        Some(Name::Level(_) | Name::Zone(_)) | None => return Err(Fault::Unknown),
+    };
+    if count != words_of(verb) {
+        return Err(Fault::Unfit);
     }
-    if verb < POWER {
-        if count == 1 {
-            return alone(verb);
-        }
-        return Order::Wrong(UNFIT);
-    }
-    if verb < BYTE {
-        if count == 2 {
-            if verb < WALK {
-                return named(verb, words::row(object));
-            }
-            return numbered(verb, object);
-        }
-        return Order::Wrong(UNFIT);
-    }
-    if count == 3 {
-        if verb == BYTE {
-            return byte(object, value);
-        }
-        return zone(words::row(object), value);
-    }
-    Order::Wrong(UNFIT)
+    obeyed(verb, object, value)
 }
 
-fn words_order(s: &[u8]) -> Order
-    ensures { result ≡ words_order s.now }
+fn words_order(s: &[u8]) -> Result<Order, Fault>
+    ensures { numbered result ≡ words_order s.now }
 {
     let second = words::after_word(s);
     let third = words::after_word(second);
-    let verb = words::first_word(s);
+    let first = words::first_word(s);
     let object = words::first_word(second);
     let value = words::first_word(third);
     let more = words::first_word(words::after_word(third));
     ordered(
-        words::row(verb),
-        word_count(verb, object, value, more),
+        words::name_of(first),
+        word_count(first, object, value, more),
         object,
         value,
     )
 }
 
-pub fn line_order(line: &[u8]) -> Order
-    ensures { result ≡ line_order line.now }
+#[tactic(auto, unfolding(crate::specs::Orders::line_order))]
+pub fn line_order(line: &[u8]) -> Result<Order, Fault>
+    ensures { numbered result ≡ line_order line.now }
 {
     words_order(words::up_to(Stop::Comment, line))
 }

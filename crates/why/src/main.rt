@@ -78,11 +78,11 @@ fn tell_run<W: Write>(to: &mut W, out: Output, ran: Ran, given: usize) -> Output
 fn answer<W: Write>(to: &mut W, out: Output, session: &[u8]) -> Output {
     let mut memory = [0u8; rules::BYTES];
     match file::open_session(session, &mut memory) {
-        Session::Refused(refusal) => out
+        Err(refusal) => out
             .say(to, b"bad ")
-            .number(to, refusal as u64)
+            .number(to, refusal.number() as u64)
             .say(to, b"\n"),
-        Session::Parts { fuses, steps } => {
+        Ok(Session { fuses, steps }) => {
             let section = file::step_section(session, rules::BYTES);
             let mut answers = [0u8; rules::LONGEST];
             let ran = card::run(&mut memory, fuses, Volatile::fresh(), section, &mut answers);

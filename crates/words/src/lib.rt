@@ -1,10 +1,10 @@
 // The words of a text, and what a word can stand for: a name of the table, or a number.
 #![tactic(auto)]
 
-ghost use Rattle.std.specs.Prelude.{◌≡◌, ◌≤◌};
+ghost use Rattle.std.specs.Prelude.{◌≡◌, ◌≤◌, ◌<◌, IfSome};
 ghost use Rattle.words.specs.Scan.{stops_at, ahead_of, up_to, from, first_word, after_word};
-ghost use Rattle.words.specs.Numbers.{digit_of, number_from, number_of};
-ghost use Rattle.words.specs.Names.{packed, index_of, row_of};
+ghost use Rattle.words.specs.Numbers.{digit_in, digit_of, number_from, number_of};
+ghost use Rattle.words.specs.Names.{row_in, row_of};
 
 // What a scan stops at.
 #[derive(Clone, Copy)]
@@ -15,16 +15,11 @@ pub enum Stop {
     Ink,
 }
 
-#[derive(Clone, Copy)]
-pub enum Number {
-    Is(u64),
-    Not,
-}
-
+#[tactic(auto, unfolding(crate::specs::Scan::stops_at, crate::specs::Scan::blank))]
 fn stops(stop: Stop, b: u8) -> bool
     ensures { result ≡ stops_at stop b }
 {
-    let blank = (b == b' ') | ((b == b'\t') | (b == b'\r'));
+    let blank = matches!(b, b' ' | b'\t' | b'\r');
     match stop {
         Stop::LineEnd => b == b'\n',
         Stop::Comment => b == b'#',
@@ -37,17 +32,11 @@ fn stops(stop: Stop, b: u8) -> bool
 pub fn ahead(stop: Stop, s: &[u8]) -> usize
     ensures { result ≡ ahead_of stop s.now }
 {
-    let mut i = 0;
-    while i < s.len() {
-        if stops(stop, s[i]) {
-            return i;
-        }
-        i += 1;
-    }
-    i
+    s.iter().position(|b| stops(stop, *b)).unwrap_or(s.len())
 }
 
 // These bytes.
+#[tactic(auto, unfolding(crate::specs::Scan::up_to))]
 pub fn up_to(stop: Stop, s: &[u8]) -> &[u8]
     ensures { result.now ≡ up_to stop s.now }
 {
@@ -56,6 +45,7 @@ pub fn up_to(stop: Stop, s: &[u8]) -> &[u8]
 }
 
 // All after them.
+#[tactic(auto, using(crate::proofs::Scans::ahead_le), unfolding(crate::specs::Scan::from))]
 pub fn beyond(stop: Stop, s: &[u8]) -> &[u8]
     ensures { result.now ≡ from stop s.now }
 {
@@ -64,6 +54,7 @@ pub fn beyond(stop: Stop, s: &[u8]) -> &[u8]
 }
 
 // The first word, empty where there is none.
+#[tactic(auto, unfolding(crate::specs::Scan::first_word))]
 pub fn first_word(s: &[u8]) -> &[u8]
     ensures { result.now ≡ first_word s.now }
 {
@@ -71,139 +62,147 @@ pub fn first_word(s: &[u8]) -> &[u8]
 }
 
 // What stands after the first word.
+#[tactic(auto, unfolding(crate::specs::Scan::after_word))]
 pub fn after_word(s: &[u8]) -> &[u8]
     ensures { result.now ≡ after_word s.now }
 {
     beyond(Stop::Blank, beyond(Stop::Ink, s))
 }
 
-fn digit(b: u8) -> u8
-    ensures value { result ≡ digit_of b }
-    ensures upper_bound { result ≤ 16 }
+// The value of a digit, hex or decimal.
+#[tactic(auto, unfolding(crate::specs::Numbers::digit_in, crate::specs::Numbers::digit_of))]
+fn digit(b: u8) -> Option<u8>
+    ensures value { digit_in result ≡ digit_of b }
+    ensures bound { IfSome result (λ d. d < 16) }
 {
-    if b < 48 {
-        return 16;
+    match b {
+        b'0'..=b'9' => Some(b - b'0'),
+        b'A'..=b'F' => Some(b - b'A' + 10),
+        b'a'..=b'f' => Some(b - b'a' + 10),
+        _ => None,
     }
-    if b < 58 {
-        return b - 48;
-    }
-    if b < 65 {
-        return 16;
-    }
-    if b < 71 {
-        return b - 55;
-    }
-    if b < 97 {
-        return 16;
-    }
-    if b < 103 { b - 87 } else { 16 }
 }
 
 // Whatever is below it stays in range with one digit more.
 const LIMIT: u64 = 0x1000_0000_0000_0000;
 
-fn numeral_from(base: u64, w: &[u8]) -> Number
+fn numeral_from(base: u64, w: &[u8]) -> Option<u64>
     requires { base ≤ 16 }
     ensures { result ≡ number_from base 0 w.now }
 {
     let mut value: u64 = 0;
-    let mut i = 0;
-    while i < w.len() {
-        let d = digit(w[i]) as u64;
-        if base <= d {
-            return Number::Not;
-        }
-        if LIMIT <= value {
-            return Number::Not;
+    for b in w {
+        let d = digit(*b)? as u64;
+        if base <= d || LIMIT <= value {
+            return None;
         }
         value = value * base + d;
-        i += 1;
     }
-    Number::Is(value)
+    Some(value)
 }
 
 // The number that a word writes in hex or decimal digits.
-pub fn numeral(hex: bool, w: &[u8]) -> Number
+pub fn numeral(hex: bool, w: &[u8]) -> Option<u64>
     ensures { result ≡ number_of hex w.now }
 {
-    if w.len() == 0 {
-        return Number::Not;
+    if w.is_empty() {
+        return None;
     }
-    if hex {
-        return numeral_from(16, w);
-    }
-    numeral_from(10, w)
+    numeral_from(if hex { 16 } else { 10 }, w)
 }
 
-// Whatever is below it stays in range with one byte more.
-const FULL: u64 = 0x100_0000_0000_0000;
-
-// A word's bytes in one number, 0 where they are more than seven.
-fn pack(w: &[u8]) -> u64
-    ensures { result ≡ packed 1 w.now }
-{
-    let mut value: u64 = 1;
-    let mut i = 0;
-    while i < w.len() {
-        if FULL <= value {
-            return 0;
-        }
-        value = value * 256 + w[i] as u64;
-        i += 1;
-    }
-    value
+// A word that starts a line.
+#[derive(Clone, Copy, Debug, PartialEq, Eq)]
+pub enum Verb {
+    Reset,
+    Write,
+    Erase,
+    Blow,
+    Power,
+    Fus,
+    Image,
+    Cut,
+    Walk,
+    Lines,
+    Fuses,
+    Show,
+    Open,
+    Byte,
+    Zone,
 }
 
-fn find(x: u64, table: &[u64]) -> usize
-    ensures { result ≡ index_of x table.now }
-{
-    let mut i = 0;
-    while i < table.len() {
-        if table[i] == x {
-            return i;
-        }
-        i += 1;
-    }
-    i
+// A word that says to which of two values.
+#[derive(Clone, Copy, Debug, PartialEq, Eq)]
+pub enum Level {
+    On,
+    Off,
+    High,
+    Low,
+    Ones,
+    Zeros,
 }
 
-// The row of a word in the table of names, one past its end where it is none of them.
-pub fn row(w: &[u8]) -> usize
-    ensures { result ≡ row_of w.now }
+// The zones of the data sheet that a text may name.
+#[derive(Clone, Copy, Debug, PartialEq, Eq)]
+pub enum Zone {
+    FZ,
+    IZ,
+    SC,
+    SCAC,
+    CPZ,
+    AZ,
+    EZ,
+    EC,
+    MTZ,
+    MFZ,
+}
+
+// What a word may be.
+#[derive(Clone, Copy, Debug, PartialEq, Eq)]
+pub enum Name {
+    Verb(Verb),
+    Level(Level),
+    Zone(Zone),
+}
+
+// A `match` on the bytes would leave a goal for each byte of each name.
+const NAMES: [(&str, Name); 31] = [
+    ("reset", Name::Verb(Verb::Reset)),
+    ("write", Name::Verb(Verb::Write)),
+    ("erase", Name::Verb(Verb::Erase)),
+    ("blow", Name::Verb(Verb::Blow)),
+    ("power", Name::Verb(Verb::Power)),
+    ("fus", Name::Verb(Verb::Fus)),
+    ("image", Name::Verb(Verb::Image)),
+    ("cut", Name::Verb(Verb::Cut)),
+    ("walk", Name::Verb(Verb::Walk)),
+    ("lines", Name::Verb(Verb::Lines)),
+    ("fuses", Name::Verb(Verb::Fuses)),
+    ("show", Name::Verb(Verb::Show)),
+    ("open", Name::Verb(Verb::Open)),
+    ("byte", Name::Verb(Verb::Byte)),
+    ("zone", Name::Verb(Verb::Zone)),
+    ("on", Name::Level(Level::On)),
+    ("off", Name::Level(Level::Off)),
+    ("high", Name::Level(Level::High)),
+    ("low", Name::Level(Level::Low)),
+    ("ones", Name::Level(Level::Ones)),
+    ("zeros", Name::Level(Level::Zeros)),
+    ("FZ", Name::Zone(Zone::FZ)),
+    ("IZ", Name::Zone(Zone::IZ)),
+    ("SC", Name::Zone(Zone::SC)),
+    ("SCAC", Name::Zone(Zone::SCAC)),
+    ("CPZ", Name::Zone(Zone::CPZ)),
+    ("AZ", Name::Zone(Zone::AZ)),
+    ("EZ", Name::Zone(Zone::EZ)),
+    ("EC", Name::Zone(Zone::EC)),
+    ("MTZ", Name::Zone(Zone::MTZ)),
+    ("MFZ", Name::Zone(Zone::MFZ)),
+];
+
+// The name that a word is, if it is one.
+pub fn name_of(w: &[u8]) -> Option<Name>
+    ensures { row_in result ≡ row_of w.now }
 {
-    let names: [u64; 31] = [
-        0x1_72_65_73_65_74, // reset
-        0x1_77_72_69_74_65, // write
-        0x1_65_72_61_73_65, // erase
-        0x1_62_6c_6f_77, // blow
-        0x1_70_6f_77_65_72, // power
-        0x1_66_75_73, // fus
-        0x1_69_6d_61_67_65, // image
-        0x1_63_75_74, // cut
-        0x1_77_61_6c_6b, // walk
-        0x1_6c_69_6e_65_73, // lines
-        0x1_66_75_73_65_73, // fuses
-        0x1_73_68_6f_77, // show
-        0x1_6f_70_65_6e, // open
-        0x1_62_79_74_65, // byte
-        0x1_7a_6f_6e_65, // zone
-        0x1_6f_6e, // on
-        0x1_6f_66_66, // off
-        0x1_68_69_67_68, // high
-        0x1_6c_6f_77, // low
-        0x1_6f_6e_65_73, // ones
-        0x1_7a_65_72_6f_73, // zeros
-        0x1_46_5a, // FZ
-        0x1_49_5a, // IZ
-        0x1_53_43, // SC
-        0x1_53_43_41_43, // SCAC
-        0x1_43_50_5a, // CPZ
-        0x1_41_5a, // AZ
-        0x1_45_5a, // EZ
-        0x1_45_43, // EC
-        0x1_4d_54_5a, // MTZ
-        0x1_4d_46_5a, // MFZ
-    ];
-    let x = pack(w);
-    find(x, &names)
+    NAMES.iter().find(|(text, _)| text.as_bytes() == w).map(|(_, name)| *name)
 }

@@ -1,7 +1,7 @@
-use Rattle.memory.proofs.Buffer.{then}
+use Rattle.memory.proofs.Filled.{then_filled}
 use Rattle.act_parts.proofs.put_try.Goals as goal
 
 pub returns : goal.returns
 returns c =
-    let write = rw c.program-write.ensures at c.put-written.ensures in
-    then c.put_walk-there.ensures (then write (rw c.program-erase.ensures at c.put.ensures))
+    let write = rw c.program.ensures at c.put.ensures in
+    then_filled c.put_walk.ensures (then_filled write (rw c.program-2.ensures at c.put-2.ensures))

@@ -7,10 +7,10 @@ returns c =
     let counted = rw (c.first_word-more.ensures, c.after_word.ensures) at c.word_count.ensures in
     rw (
       counted,
-      c.row.ensures,
+      c.name_of.ensures,
       c.first_word-value.ensures,
       c.first_word-object.ensures,
-      c.first_word-verb.ensures,
+      c.first_word-first.ensures,
       c.after_word-third.ensures,
       c.after_word-second.ensures,
     )

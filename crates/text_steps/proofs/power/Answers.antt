@@ -3,4 +3,4 @@ use Rattle.text_steps.proofs.power.Goals as goal
 
 pub returns : goal.returns
 returns c =
-    rw (power_steps _ _ c.levels-off.ensures.value c.levels.ensures.value) c.raw.ensures
+    rw (power_steps _ _ c.level-off.ensures.value c.level.ensures.value) c.raw.ensures

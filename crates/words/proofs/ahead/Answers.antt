@@ -1,20 +1,13 @@
-use mathlib.Core.Path.{sym, ◌∙◌}
-use native.Mathlib.Omega.{arith}
-use Rattle.words.proofs.Scans.{begun, ahead_scans, at_end, at_stop, one_more}
+use Rattle.std.proofs.Common.{rules, tests, ◌≡◌, true, false, sym, ◌∙◌}
+use Rattle.std.proofs.lemmas.Iterator.{YieldsList-from_slice, IsFirst-from_position}
+use Rattle.words.specs.Scan.{stops_at}
+use Rattle.words.proofs.Scans.{ahead_found}
 use Rattle.words.proofs.ahead.Goals as goal
 
-pub loop-i-init : goal.loop-i-init
-loop-i-init c = begun
-
-pub returns-then-stops : goal.returns-then-stops
-returns-then-stops c =
-    let stop = sym c.stops.ensures ∙ c.if-stops.true in
-    omega (arith, at_stop (ahead_scans _) c.loop-i.invariant c.loop-i-test.true stop)
-
-pub loop-i-preserved : goal.loop-i-preserved
-loop-i-preserved c =
-    let on = sym c.stops.ensures ∙ c.if-stops.false in
-    one_more (ahead_scans _) c.loop-i.invariant c.loop-i-test.true on
-
 pub returns : goal.returns
-returns c = omega (arith, at_end (ahead_scans _) c.loop-i.invariant c.loop-i-test.false)
+returns c =
+    let stop = c.args.stop in
+    let found =
+    IsFirst-from_position _ _ c.position.result (λ b. stops_at stop b ≡ true) (λ b. stops_at stop b ≡ false) c.position.ensures.ran
+    (YieldsList-from_slice c.args.s.now cc) (λ x q k. search (rules, tests)) (λ x q k. search (rules, tests)) in
+    c.unwrap_or.ensures ∙ sym (ahead_found _ _ _ found)

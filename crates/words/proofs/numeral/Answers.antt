@@ -1,15 +1,17 @@
-use borrow.Author.Tests.{eq-eqb, ne_eqb}
+use Rattle.std.proofs.Common.{sym, ◌∙◌, refl}
 use Rattle.words.specs.Numbers.{number_of}
 use Rattle.words.proofs.numeral.Goals as goal
+use Rattle.words.proofs.numeral.Goals.{then-hex, else-hex}
 
-pub returns-then-w-eq0 : goal.returns-then-w-eq0
+pub returns-then-is_empty : goal.returns-then-is_empty
 unfolding number_of
-returns-then-w-eq0 c = simp (eq-eqb _ _ c.if-w-eq0.true)
-
-pub returns-then-hex : goal.returns-then-hex
-unfolding number_of
-returns-then-hex c = simp (ne_eqb _ _ c.if-w-eq0.false, c.if-hex.true) c.numeral_from.ensures
+returns-then-is_empty c = rw (sym c.is_empty.ensures ∙ c.if-is_empty.true) refl
 
 pub returns : goal.returns
 unfolding number_of
-returns c = simp (ne_eqb _ _ c.if-w-eq0.false, c.if-hex.false) c.numeral_from-2.ensures
+returns c =
+    rw (sym c.is_empty.ensures ∙ c.if-is_empty.false)
+    (elim c.if-hex.branch [
+      | then-hex w ↦ rw (w.if-hex.true, ← w.numeral_from-is) c.numeral_from.ensures
+      | else-hex w ↦ rw (w.if-hex.false, ← w.numeral_from-is) c.numeral_from.ensures
+    ])

@@ -1,39 +1,32 @@
-use Prim.Native.Nat.{ℕ, ◌*◌, ◌≤◌}
-use mathlib.Core.Path.{refl}
-use native.Mathlib.Nat.{mul-le-mul_left}
-use native.Mathlib.Omega.{arith}
-use borrow.Author.Tests.{le-leb, lt-leb}
-use Rattle.words.proofs.Scans.{begun, number_scans, at_end, at_stop, one_more}
+use Rattle.std.proofs.Common.{◌∙◌, arith}
+use Rattle.words.specs.Numbers.{digit_in}
+use Rattle.words.proofs.Digits.{begun, at_end, no_digit, too_large, one_more}
 use Rattle.words.proofs.numeral_from.Goals as goal
+use Rattle.words.proofs.numeral_from.Goals.{then-base-d-via-then-base-d, then-base-d-via-else-base-d+then-value-ge-LIMIT}
 
--- The product of two variables, bounded for omega.
-scaled : (v b : ℕ) → b ≤ 16 → v * b ≤ v * 16
-scaled v b h = mul-le-mul_left v h
+pub loop-b-init : goal.loop-b-init
+loop-b-init c = begun
 
-pub loop-i-init : goal.loop-i-init
-loop-i-init c = begun
+pub returns-in_err-d : goal.returns-in_err-d
+unfolding digit_in
+returns-in_err-d c = c.from_residual.ensures ∙ no_digit c.loop-b.invariant c.loop-b-test.true (omega (arith, c.in_err-d.ensures.value))
 
 pub returns-then-base-d : goal.returns-then-base-d
+unfolding digit_in
 returns-then-base-d c =
-    at_stop (number_scans _) c.loop-i.invariant c.loop-i-test.true
-    (rw (← c.digit-d.ensures.value, le-leb _ _ c.if-base-d.true) refl)
+    let d = c.in_ok-d.ensures.value in
+    let u = c.loop-b.invariant in
+    let h = c.loop-b-test.true in
+    elim c.then-base-d.branch [
+      | then-base-d-via-then-base-d w ↦ no_digit u h (omega (arith, d, w.if-base-d.true))
+      | then-base-d-via-else-base-d+then-value-ge-LIMIT w ↦ too_large u h (omega (arith, d, w.if-base-d.false)) w.if-value-ge-LIMIT.true
+    ]
 
-pub returns-then-value-ge-LIMIT : goal.returns-then-value-ge-LIMIT
-returns-then-value-ge-LIMIT c =
-    at_stop (number_scans _) c.loop-i.invariant c.loop-i-test.true
-    (rw (← c.digit-d.ensures.value, lt-leb _ _ c.if-base-d.false, le-leb _ _ c.if-value-ge-LIMIT.true) refl)
-
-pub overflow_mul-value : goal.overflow_mul-value
-overflow_mul-value c = omega (arith, scaled c.loop-i.value c.args.base c.requires)
-
-pub overflow_add-value : goal.overflow_add-value
-overflow_add-value c = omega (arith, scaled c.loop-i.value c.args.base c.requires)
-
-pub loop-i-preserved : goal.loop-i-preserved
-loop-i-preserved c =
-    rw c.digit-d.ensures.value
-    (one_more (number_scans _) c.loop-i.invariant c.loop-i-test.true
-    (rw (← c.digit-d.ensures.value, lt-leb _ _ c.if-base-d.false, lt-leb _ _ c.if-value-ge-LIMIT.false) refl))
+pub loop-b-preserved : goal.loop-b-preserved
+unfolding digit_in
+loop-b-preserved c =
+    let d = c.in_ok-d.ensures.value in
+    rw d (one_more c.loop-b.invariant c.loop-b-test.true (omega (arith, d, c.if-base-d.false)) c.if-value-ge-LIMIT.false)
 
 pub returns : goal.returns
-returns c = at_end (number_scans _) c.loop-i.invariant c.loop-i-test.false
+returns c = at_end c.loop-b.invariant c.loop-b-test.false

@@ -1,0 +1,15 @@
+use Rattle.std.proofs.Common.{rules, tests, refl, Bool}
+use Rattle.std.proofs.lemmas.Iterator.Search.{find_from_yields_List}
+use Rattle.std.proofs.lemmas.Iterator.{YieldsList-from_slice}
+use Rattle.std.specs.Str.{bytes_eq}
+use Rattle.words.proofs.Table.{Line, in_rows, taken, found}
+use Rattle.words.specs.Names.{bytes_of, names, row, verb_row, level_row, zone_row, row_of}
+use Rattle.words.proofs.name_of.Goals as goal
+
+pub returns : goal.returns
+unfolding row_of names bytes_of in_rows row verb_row level_row zone_row
+returns c =
+    let test : Line → Bool = λ p. bytes_eq p.0.now c.args.w.now in
+    let first = find_from_yields_List test _ _ c.find.result c.find.ensures.ran (YieldsList-from_slice c.iter.result.rest.now cc) (λ x b q k. search (rules, tests)) in
+    let m = taken c.find.result c.map.result c.map.ensures.cases (λ x n q. search (rules, tests)) in
+    rw (m, first) (found c.args.w.now _ _ c.iter.ensures.rest refl)
