@@ -143,7 +143,7 @@ pub extern "C" fn zhav_run(
 }
 
 // SV, P1, R1 and E1, or 9.
-#[tactic(auto, using(crate::proofs::Shown::as_byte), unfolding(crate::specs::Rendered::flag_bytes, looks::specs::Flags::flags_held, rules::specs::Numbers::numbered, rules::specs::Numbers::refused))]
+#[tactic(auto, using(crate::proofs::Shown::as_byte), unfolding(crate::specs::Rendered::flag_bytes, rules::specs::Numbers::numbered))]
 #[unsafe(no_mangle)]
 pub extern "C" fn zhav_flags(v: Volatile) -> ZhavFlags
     ensures { result ≡ flag_bytes (flags_of v) }
