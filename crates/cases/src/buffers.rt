@@ -41,7 +41,7 @@ fn run(t: Table, steps: &[u8], answers: &mut [u8], expected: u64) -> Table {
         b"  steps ",
         steps.len() as u64,
         expected,
-        ran.refusal as u64,
+        rules::number_if_any(ran.refusal) as u64,
     )
 }
 

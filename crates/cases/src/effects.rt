@@ -41,7 +41,10 @@ fn run(
     let mut answers = [0u8; 8];
     let ran = card::run(&mut memory, 7, v, steps, &mut answers);
     let half = ran.volatile;
-    let t = t.from(v).numbers(0, ran.refusal as u64).half(after, half);
+    let t = t
+        .from(v)
+        .numbers(0, rules::number_if_any(ran.refusal) as u64)
+        .half(after, half);
     t.row(b"  byte ", i as u64, byte, wide(memory[i % 174]))
 }
 

@@ -1,15 +1,12 @@
 // The rows of a step, from a text: heads, and rows of five numbers.
 use crate::lines::{after_line, line_from};
 use crate::table::Table;
-use rules::Answer;
+use rules::Refusal;
 use volatile::Volatile;
 use words::Number;
 
-pub(crate) fn refusal(answer: Answer) -> u64 {
-    let Answer::Refused(k) = answer else {
-        return 0;
-    };
-    k as u64
+pub(crate) fn refusal(answer: Result<u8, Refusal>) -> u64 {
+    rules::number_if_any(answer.err()) as u64
 }
 
 // The step n from the volatile half v.

@@ -18,7 +18,8 @@ pub fn report(memory: &mut [u8], fuses: u8, steps: &[u8], given: usize, out: &mu
     let mut answers = [0u8; rules::LONGEST];
     let ran = card::run(memory, fuses, Volatile::fresh(), steps, &mut answers);
     let left = looks::tries_left(memory);
-    report::four_lines(ran.done, given, ran.refusal, &answers, left, out)
+    let refusal = rules::number_if_any(ran.refusal);
+    report::four_lines(ran.done, given, refusal, &answers, left, out)
 }
 
 // What the session program prints of these bytes: `bad N` or the four lines.

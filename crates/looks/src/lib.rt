@@ -110,13 +110,12 @@ fn reason_of(fuses: u8, v: Volatile) -> Reason
 }
 
 // Why CLK's fall would change nothing by right, or that the right is there; 10, 14, 9. PGM is taken as low already.
-#[tactic(auto, unfolding(crate::specs::Reasons::reason_answer))]
+#[tactic(auto, using(rules::proofs::Numbering::some_number), unfolding(crate::specs::Reasons::reason_answer, rules::specs::Numbers::number_in))]
 pub fn reason(image: &[u8], fuses: u8, v: Volatile) -> ReasonAnswer
     ensures { result ≡ reason_answer image.now fuses v }
 {
-    let refusal = refusals::state_refusal(image, fuses, v);
-    if refusal != 0 {
-        return ReasonAnswer::Refused(refusal);
+    if let Err(refusal) = refusals::state_refusal(image, fuses, v) {
+        return ReasonAnswer::Refused(refusal.number());
     }
     ReasonAnswer::Told(reason_of(fuses, v))
 }

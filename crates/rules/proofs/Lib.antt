@@ -1,3 +1,4 @@
 pub mod AgainstTable
+pub mod Numbering
 pub mod PastLast
 pub mod Rows

@@ -72,7 +72,7 @@ fn tell_run<W: Write>(to: &mut W, out: Output, ran: Ran, given: usize) -> Output
     let out = out.say(to, b"done ").number(to, ran.done as u64);
     let out = out.say(to, b" of ").number(to, given as u64);
     out.say(to, b"\nrefused ")
-        .number(to, ran.refusal as u64)
+        .number(to, rules::number_if_any(ran.refusal) as u64)
         .say(to, b"\n")
 }
 
