@@ -6,12 +6,14 @@ use Rattle.rules.specs.Computing.{the_card}
 use Rattle.looks.specs.Flags.{flags_of}
 use Rattle.looks.specs.Reasons.{reason_answer}
 use Rattle.maker.specs.Act.{made, in_buffer}
-use Rattle.file.specs.Opening.{refusal_in_card, refusal_in_session, card_answer, session_answer, in_memory, handed_steps}
-use Rattle.exports.specs.Rendered.{flag_bytes, reason_bytes, made_of, card_file_of, session_of}
+use Rattle.rules.specs.Numbers.{refused}
+use Rattle.file.specs.Opening.{card_answer, session_answer, in_memory, handed_steps}
+use Rattle.exports.specs.Rendered.{of_step, flag_bytes, reason_bytes, made_of, card_file_of, session_of}
 use Rattle.exports.specs.Cases.{StepsTold, FlagsTold, ReasonsTold, VersionTold, ActsTold, FilesTold}
 
 pub steps_told : StepsTold
-steps_told = (refl, refl)
+unfolding of_step
+steps_told = (refl, refl, refl)
 
 pub flags_told : FlagsTold
 unfolding the_card flags_of flag_bytes
@@ -34,7 +36,7 @@ acts_told = (
 )
 
 pub files_told : FilesTold
-unfolding sample card_file session refusal_in_card refusal_in_session card_answer session_answer in_memory handed_steps card_file_of session_of
+unfolding sample card_file session refused card_answer session_answer in_memory handed_steps card_file_of session_of
 files_told = (
   record { answer = refl; bytes = refl },
   record { answer = refl; bytes = refl },

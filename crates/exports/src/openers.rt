@@ -22,43 +22,37 @@ pub struct ZhavSession {
     pub refusal: u8,
 }
 
+#[tactic(auto, unfolding(rules::specs::Numbers::numbered, rules::specs::Numbers::refused, file::specs::Opening::card_fuses, crate::specs::Rendered::card_file_of))]
 #[unsafe(no_mangle)]
 pub extern "C" fn zhav_open_card(file: &[u8], memory: &mut [u8]) -> ZhavCard
     ensures { CardTold file.now memory.old result memory.new }
 {
-    let opened = file::open_card(file, memory);
-    match opened {
-        CardFile::Card { fuses: fuses } => ZhavCard {
-            fuses: fuses,
-            refusal: 0,
-        },
-        CardFile::Refused(refusal) => ZhavCard {
+    match file::open_card(file, memory) {
+        Ok(CardFile { fuses }) => ZhavCard { fuses, refusal: 0 },
+        Err(refusal) => ZhavCard {
             fuses: 0,
-            refusal: refusal,
+            refusal: refusal.number(),
         },
     }
 }
 
+#[tactic(auto, using(crate::proofs::Shown::section_shown, crate::proofs::Shown::no_section), unfolding(rules::specs::Numbers::numbered, rules::specs::Numbers::refused, file::specs::Opening::session_fuses, file::specs::Opening::session_steps, crate::specs::Rendered::steps_from, crate::specs::Rendered::session_of))]
 #[unsafe(no_mangle)]
 pub extern "C" fn zhav_open_session(file: &[u8], memory: &mut [u8]) -> ZhavSession
     ensures { SessionTold file.now memory.old result memory.new }
 {
-    let opened = file::open_session(file, memory);
-    match opened {
-        Session::Parts {
-            fuses: fuses,
-            steps: steps,
-        } => ZhavSession {
+    match file::open_session(file, memory) {
+        Ok(Session { fuses, steps }) => ZhavSession {
             first: rules::STEPS_AT,
-            steps: steps,
-            fuses: fuses,
+            steps,
+            fuses,
             refusal: 0,
         },
-        Session::Refused(refusal) => ZhavSession {
+        Err(refusal) => ZhavSession {
             first: 0,
             steps: 0,
             fuses: 0,
-            refusal: refusal,
+            refusal: refusal.number(),
         },
     }
 }

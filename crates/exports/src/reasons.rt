@@ -3,7 +3,6 @@ ghost use Rattle.std.specs.Prelude.{◌≡◌};
 ghost use Rattle.looks.specs.Reasons.{reason_answer};
 ghost use Rattle.exports.specs.Rendered.{reason_bytes};
 
-use looks::ReasonAnswer;
 use volatile::Volatile;
 
 // What stands in the reason's place beside a refusal, so that none reads as a right.
@@ -18,19 +17,19 @@ pub struct ZhavWhy {
 }
 
 // The reason why CLK's fall would change nothing by right, PGM taken as low already.
+#[tactic(auto, unfolding(crate::specs::Rendered::reason_bytes, rules::specs::Numbers::numbered))]
 #[unsafe(no_mangle)]
 pub extern "C" fn zhav_reason(image: &[u8], fuses: u8, v: Volatile) -> ZhavWhy
     ensures { result ≡ reason_bytes (reason_answer image.now fuses v) }
 {
-    let told = looks::reason(image, fuses, v);
-    match told {
-        ReasonAnswer::Told(reason) => ZhavWhy {
+    match looks::reason(image, fuses, v) {
+        Ok(reason) => ZhavWhy {
             reason: looks::number_of(reason),
             refusal: 0,
         },
-        ReasonAnswer::Refused(refusal) => ZhavWhy {
+        Err(refusal) => ZhavWhy {
             reason: UNANSWERED,
-            refusal: refusal,
+            refusal: refusal.number(),
         },
     }
 }

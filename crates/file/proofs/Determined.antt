@@ -3,19 +3,25 @@ use Prim.Native.Nat.{ℕ}
 use mathlib.Core.Path.{◌≡◌}
 use mathlib.Core.List.{List}
 use denote.Ref.{Bor}
+use Rattle.std.specs.Prelude.{Result}
 use Rattle.memory.proofs.Determined.{determined}
+use Rattle.rules.specs.declared.Refusal.{Refusal}
+use Rattle.rules.specs.Numbers.{numbered}
+use Rattle.rules.proofs.Numbers.{same_numbered}
 use Rattle.file.specs.declared.CardFile.{CardFile}
 use Rattle.file.specs.declared.Session.{Session}
 use Rattle.file.specs.Opening.{CardOpened, SessionOpened, Handed}
 
 module _ (file memory after after' : List ℕ) where
   pub card_determined :
-      (r r' : CardFile) → CardOpened file memory r after → CardOpened file memory r' after' → (r ≡ r') × (after ≡ after')
-  card_determined r r' p q = let same = determined p.answer q.answer in (same, cc (p.bytes, q.bytes, same))
+      (r r' : Result CardFile Refusal) → CardOpened file memory (numbered r) after → CardOpened file memory (numbered r') after' →
+      (r ≡ r') × (after ≡ after')
+  card_determined r r' p q = let same = determined p.answer q.answer in (same_numbered r r' same, cc (p.bytes, q.bytes, same))
 
   pub session_determined :
-      (r r' : Session) → SessionOpened file memory r after → SessionOpened file memory r' after' → (r ≡ r') × (after ≡ after')
-  session_determined r r' p q = let same = determined p.answer q.answer in (same, cc (p.bytes, q.bytes, same))
+      (r r' : Result Session Refusal) → SessionOpened file memory (numbered r) after → SessionOpened file memory (numbered r') after' →
+      (r ≡ r') × (after ≡ after')
+  session_determined r r' p q = let same = determined p.answer q.answer in (same_numbered r r' same, cc (p.bytes, q.bytes, same))
 
 -- A part of the caller's bytes: what it holds, and where it lies.
 pub steps_determined :

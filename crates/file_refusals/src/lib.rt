@@ -2,7 +2,10 @@
 #![tactic(auto)]
 
 ghost use Rattle.std.specs.Prelude.{◌+◌, ◌<◌, ◌≡◌, length};
+ghost use Rattle.rules.specs.Numbers.{number_in};
 ghost use Rattle.rules.specs.File.{count as count_at, parts_refusal, card_refusal, session_refusal};
+
+use rules::Refusal;
 
 // "two bytes, low first"
 #[tactic(auto, unfolding(rules::specs::File::count))]
@@ -11,59 +14,57 @@ fn count(file: &[u8], at: usize) -> usize
     ensures value { result ≡ count_at file.now at }
     ensures upper_bound { result < 65536 }
 {
-    file[at] as usize + 256 * (file[at + 1] as usize)
+    u16::from_le_bytes([file[at], file[at + 1]]) as usize
 }
 
-// 10 to 14, 0 if none of them.
-#[tactic(auto, unfolding(rules::specs::File::parts_refusal, rules::specs::File::fuse_section))]
-fn parts_refusal(file: &[u8], room: usize) -> u8
-    ensures { result ≡ parts_refusal file.now room 0 }
+// 10 to 14.
+#[tactic(auto, unfolding(rules::specs::Numbers::number_in, rules::specs::File::parts_refusal, rules::specs::File::fuse_section))]
+fn parts_refusal(file: &[u8], room: usize) -> Result<(), Refusal>
+    ensures { number_in result ≡ parts_refusal file.now room 0 }
 {
     if room != rules::BYTES {
-        return 10;
+        return Err(Refusal::ImageLength);
     }
     if file.len() < rules::STEP_COUNT_AT {
-        return 11;
+        return Err(Refusal::FileTooShort);
     }
     if count(file, 0) != rules::BYTES {
-        return 12;
+        return Err(Refusal::FirstCount);
     }
     if count(file, rules::FUSE_COUNT_AT) != 1 {
-        return 13;
+        return Err(Refusal::SecondCount);
     }
-    if 7 < file[rules::FUSES_AT] { 14 } else { 0 }
+    if 7 < file[rules::FUSES_AT] {
+        return Err(Refusal::FuseByte);
+    }
+    Ok(())
 }
 
-#[tactic(auto, using(crate::proofs::Refusals::parts_first), unfolding(rules::specs::File::card_refusal))]
-pub fn card_refusal(file: &[u8], room: usize) -> u8
-    ensures { result ≡ card_refusal file.now room }
+#[tactic(auto, using(crate::proofs::Refusals::parts_first), unfolding(rules::specs::Numbers::number_in, rules::specs::File::card_refusal))]
+pub fn card_refusal(file: &[u8], room: usize) -> Result<(), Refusal>
+    ensures { number_in result ≡ card_refusal file.now room }
 {
-    let parts = parts_refusal(file, room);
-    if parts != 0 {
-        return parts;
+    parts_refusal(file, room)?;
+    if file.len() != rules::STEP_COUNT_AT {
+        return Err(Refusal::FileLength);
     }
-    if file.len() == rules::STEP_COUNT_AT {
-        0
-    } else {
-        17
-    }
+    Ok(())
 }
 
-#[tactic(auto, using(crate::proofs::Refusals::parts_first), unfolding(rules::specs::File::session_refusal, rules::specs::File::step_count))]
-pub fn session_refusal(file: &[u8], room: usize) -> u8
-    ensures { result ≡ session_refusal file.now room }
+#[tactic(auto, using(crate::proofs::Refusals::parts_first), unfolding(rules::specs::Numbers::number_in, rules::specs::File::session_refusal, rules::specs::File::step_count))]
+pub fn session_refusal(file: &[u8], room: usize) -> Result<(), Refusal>
+    ensures { number_in result ≡ session_refusal file.now room }
 {
-    let parts = parts_refusal(file, room);
-    if parts != 0 {
-        return parts;
-    }
+    parts_refusal(file, room)?;
     if file.len() < rules::STEPS_AT {
-        return 15;
+        return Err(Refusal::SessionTooShort);
     }
     let steps = count(file, rules::STEP_COUNT_AT);
-    let end = rules::STEPS_AT + steps;
     if rules::LONGEST < steps {
-        return 16;
+        return Err(Refusal::StepCount);
     }
-    if file.len() == end { 0 } else { 17 }
+    if file.len() != rules::STEPS_AT + steps {
+        return Err(Refusal::FileLength);
+    }
+    Ok(())
 }

@@ -1,7 +1,7 @@
 // The leaves on a lent image, and bytes put into a lent buffer. A byte past the end reads 0, and a store there does nothing.
 #![tactic(auto)]
 
-ghost use Rattle.std.specs.Prelude.{◌≡◌, length, replicate, set};
+ghost use Rattle.std.specs.Prelude.{◌≡◌, set};
 ghost use Rattle.memory.specs.Image.{digit, bit, written, erased_word, filled};
 ghost use Rattle.memory.specs.Buffer.{Put};
 
@@ -56,24 +56,13 @@ pub fn erase_word(image: &mut [u8], a: usize)
     store(image, i + 1, 255);
 }
 
-// Every byte of a part takes the value v.
-fn fill(part: &mut [u8], v: u8)
-    ensures { part.new ≡ replicate (length part.old) v }
-{
-    let mut i = 0;
-    while i < part.len() {
-        part[i] = v;
-        i += 1;
-    }
-}
-
 // count bytes from byte first on take the value v.
 pub fn fill_part(image: &mut [u8], first: usize, count: usize, v: u8)
     ensures { image.new ≡ filled first count v image.old }
 {
     if first <= image.len() {
         if count <= image.len() - first {
-            fill(&mut image[first..first + count], v);
+            image[first..first + count].fill(v);
         }
     }
 }
@@ -82,15 +71,10 @@ pub fn fill_part(image: &mut [u8], first: usize, count: usize, v: u8)
 pub fn put(out: &mut [u8], at: usize, bytes: &[u8]) -> usize
     ensures { Put out.old at bytes.now result out.new }
 {
-    let mut next = at;
-    let mut taken = 0;
-    while taken < bytes.len() {
-        if out.len() <= next {
-            return next;
-        }
-        out[next] = bytes[taken];
-        next += 1;
-        taken += 1;
+    if out.len() <= at {
+        return at;
     }
-    next
+    let count = bytes.len().min(out.len() - at);
+    out[at..at + count].copy_from_slice(&bytes[..count]);
+    at + count
 }

@@ -34,21 +34,6 @@ const SV_ISS: u8 = SV + ISS;
 
 const SV_ISS_FUS: u8 = SV + ISS + FUS;
 
-// Rows that have a rule of their own.
-const EC: usize = 7;
-
-const MFZ: usize = 9;
-
-const BLOCK: usize = 10;
-
-const FUSE_MF: usize = 11;
-
-const FUSE_ECEN: usize = 12;
-
-const FUSE_ISS: usize = 13;
-
-const GAP: usize = 14;
-
 // Read, write, erase: two levels by ten zones, level 1 and level 2, each FZ, IZ, SC, SCAC, CPZ, AZ, EZ, EC, MTZ, MFZ.
 const RIGHTS: [[[u8; 3]; 10]; 2] = [
     [
@@ -77,134 +62,86 @@ const RIGHTS: [[[u8; 3]; 10]; 2] = [
     ],
 ];
 
-// The row of a zone, in the order of the addresses.
-fn row_of(z: Zone) -> usize
-    ensures { result ≡ row z }
-{
-    match z {
-        Zone::FZ => 0,
-        Zone::IZ => 1,
-        Zone::SC => 2,
-        Zone::SCAC => 3,
-        Zone::CPZ => 4,
-        Zone::AZ => 5,
-        Zone::EZ => 6,
-        Zone::EC => 7,
-        Zone::MTZ => 8,
-        Zone::MFZ => 9,
-        Zone::Block => 10,
-        Zone::FuseMF => 11,
-        Zone::FuseECEN => 12,
-        Zone::FuseISS => 13,
-        Zone::Gap => 14,
-    }
-}
-
 // The fuses' words, which are programmed with RST high.
+#[tactic(auto, unfolding(rules::specs::Zones::is_fuse, rules::specs::Zones::between))]
 pub fn is_fuse(z: Zone) -> bool
     ensures { result ≡ is_fuse z }
 {
-    let row = row_of(z);
-    (FUSE_MF <= row) & (row <= FUSE_ISS)
+    matches!(z, Zone::FuseMF | Zone::FuseECEN | Zone::FuseISS)
 }
 
 // Where nothing is stored.
+#[tactic(auto, unfolding(rules::specs::Zones::is_gap))]
 pub fn is_gap(z: Zone) -> bool
     ensures { result ≡ is_gap z }
 {
-    row_of(z) == GAP
+    matches!(z, Zone::Gap)
 }
 
 // What the operation does at its place; in a gap nothing.
+#[tactic(auto, unfolding(rules::specs::Programming::effect, rules::specs::Programming::effect_apart))]
 pub fn effect_of(l1: bool, latch: bool, z: Zone) -> Operation
     ensures { result ≡ effect l1 latch z }
 {
-    let row = row_of(z);
-    if row <= MFZ {
-        if latch {
-            if (row == EC) & !l1 {
-                return Operation::EraseZone;
-            }
-            return Operation::EraseWord;
-        }
-        return Operation::WriteBit;
-    }
-    match row {
-        BLOCK => {
-            if latch {
-                Operation::EraseBlock
-            } else {
-                Operation::WriteBlock
-            }
-        }
-        FUSE_MF => Operation::BlowMF,
-        FUSE_ECEN => Operation::BlowECEN,
-        FUSE_ISS => Operation::BlowISS,
-        _ => Operation::Nothing,
+    match z {
+        Zone::Block if latch => Operation::EraseBlock,
+        Zone::Block => Operation::WriteBlock,
+        Zone::FuseMF => Operation::BlowMF,
+        Zone::FuseECEN => Operation::BlowECEN,
+        Zone::FuseISS => Operation::BlowISS,
+        Zone::Gap => Operation::Nothing,
+        _ if !latch => Operation::WriteBit,
+        Zone::EC if !l1 => Operation::EraseZone,
+        _ => Operation::EraseWord,
     }
 }
 
 // What reading, writing and erasing ask for at the block word, at the fuses and in a gap.
-fn right_apart(row: usize) -> Right
-    requires { 9 < row }
-    ensures { result ≡ get_or others (row - 10) (right no no no) }
+#[tactic(auto, unfolding(rules::specs::Rights::others))]
+fn right_apart(z: Zone) -> Right
+    requires { 9 < row z }
+    ensures { result ≡ get_or others (row z - 10) (right no no no) }
 {
-    match row {
-        BLOCK => Right {
-            read: NO,
-            write: SV_ISS_FUS,
-            erase: SV_ISS_FUS,
-        },
-        FUSE_ECEN => Right {
-            read: NO,
-            write: ISS_FUS,
-            erase: NO,
-        },
-        FUSE_MF | FUSE_ISS => Right {
-            read: NO,
-            write: SV_ISS,
-            erase: NO,
-        },
-        _ => Right {
-            read: NO,
-            write: NO,
-            erase: NO,
-        },
+    let (write, erase) = match z {
+        Zone::Block => (SV_ISS_FUS, SV_ISS_FUS),
+        Zone::FuseMF | Zone::FuseISS => (SV_ISS, NO),
+        Zone::FuseECEN => (ISS_FUS, NO),
+        _ => (NO, NO),
+    };
+    Right {
+        read: NO,
+        write,
+        erase,
     }
 }
 
 // What reading, writing and erasing ask for in a zone.
+#[tactic(auto, unfolding(rules::specs::Rights::rights))]
 pub fn right_of(l1: bool, z: Zone) -> Right
     ensures { result ≡ rights l1 z }
 {
-    let row = row_of(z);
-    if MFZ < row {
-        return right_apart(row);
+    let row = z as usize;
+    if row > Zone::MFZ as usize {
+        return right_apart(z);
     }
     // A constant is built on the stack at each use; taken so, only one level of it is.
-    let levels = RIGHTS;
-    let mut level = levels[1];
-    if l1 {
-        level = levels[0];
-    }
-    let asked = level[row];
-    Right {
-        read: asked[0],
-        write: asked[1],
-        erase: asked[2],
-    }
+    let [level1, level2] = RIGHTS;
+    let level = if l1 { level1 } else { level2 };
+    let [read, write, erase] = level[row];
+    Right { read, write, erase }
 }
 
 // What an operation asks for: a latched 1 erases, a 0 writes. The erase in EC at level 2 with EC_EN blown is only at 1232.
+#[tactic(auto, unfolding(rules::specs::Programming::asks, rules::specs::Programming::barred))]
 pub fn asks_of(l1: bool, ec_en: bool, latch: bool, a: u32, z: Zone) -> u8
     ensures { result ≡ asks l1 ec_en latch a z }
 {
     let right = right_of(l1, z);
-    if latch {
-        if (row_of(z) == EC) & (!l1 & (!ec_en & (a != 1232))) {
-            return NO;
-        }
-        return right.erase;
+    if !latch {
+        return right.write;
     }
-    right.write
+    match z {
+        Zone::EC if !l1 & (!ec_en & (a != 1232)) => NO,
+        _ => right.erase,
+    }
 }

@@ -17,6 +17,8 @@ use Rattle.rules.specs.declared.Operation.TheVariants.{Nothing}
 use Rattle.rules.specs.Halves.{EC_EN, unblown}
 use Rattle.rules.specs.Halves as Halves
 use Rattle.rules.specs.Programming.{asks, may_program, effect, operation, may_program_now, operation_now}
+use Rattle.rules.specs.Reason.{missing}
+use Rattle.theorems.proofs.Missing.{asking_law}
 use Rattle.volatile.specs.declared.Volatile.{Volatile}
 use Rattle.volatile.specs.Packed.{one, unpacked, made_up_word}
 use Rattle.volatile.proofs.Packing.{digit_one, halves, last_digit, digit_low, agree_below, masked_test}
@@ -44,15 +46,6 @@ lacking_nested h =
       as_one (h.sv || h.r1) 128,
     )
     (omega arith)
-
--- The sum of what is missing, as the code makes it.
-pub summed :
-    (h : Held) →
-    1 + cond h.sv 0 2 + cond h.p1 0 4 + cond h.e1 0 8 + (cond h.mf 0 16 + cond h.iss 0 32) + cond h.fus 0 64 +
-    cond (h.sv || h.r1) 0 128 ≡
-    lacking h
-unfolding lacking
-summed h = omega arith
 
 -- A word of flags is not zero exactly where one of them is set.
 any_flag :
@@ -175,19 +168,25 @@ module _ (l : ℕ) (rest : Bool) where
       go true false c e = absurd (false≢true e)
       go false b c e = absurd (false≢true e)
 
+pub ruleset lines = (not_ready, ready)
+
 -- The right and the operation, taken apart.
 module _ (fuses : ℕ) (v : Halves.Volatile) where
-  abbrev asked_now : ℕ
-  asked_now = asks (level1 (held fuses v)) (unblown EC_EN fuses) v.latch v.address (zone v.address)
+  -- All that is asked for is there exactly where nothing is missing.
+  nothing_missing :
+      eqb (missing fuses v (zone v.address)) 0 ≡
+      granted (asks (level1 (held fuses v)) (unblown EC_EN fuses) v.latch v.address (zone v.address)) (held fuses v)
+  unfolding missing
+  nothing_missing =
+      let law = asking_law (level1 (held fuses v)) (unblown EC_EN fuses) v.latch v.address (zone v.address) in
+      granted_mask _ (omega (arith, law.small)) (held fuses v)
 
   pub may_program_by :
-      (t : Bool) → beq (high RST v.lines) (is_fuse (zone v.address)) ≡ t →
-      may_program_now fuses v ≡ (t && granted asked_now (held fuses v))
+      may_program_now fuses v ≡ (beq (high RST v.lines) (is_fuse (zone v.address)) && eqb (missing fuses v (zone v.address)) 0)
   unfolding may_program_now may_program
-  may_program_by t e = rw e
+  may_program_by = rw nothing_missing refl
 
   pub operation_by :
-      (t : Bool) → may_program_now fuses v ≡ t →
-      operation_now fuses v ≡ cond t (effect (level1 (held fuses v)) v.latch (zone v.address)) Nothing
+      operation_now fuses v ≡ cond (may_program_now fuses v) (effect (level1 (held fuses v)) v.latch (zone v.address)) Nothing
   unfolding operation_now may_program_now operation
-  operation_by t e = rw e
+  operation_by = refl

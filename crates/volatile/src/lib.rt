@@ -73,7 +73,7 @@ const WIRED: u32 = 0xa2a7;
 
 // The volatile half: line levels, address, and the flags as one word. Three wide fields stay in registers.
 #[repr(C)]
-#[derive(Clone, Copy)]
+#[derive(Clone, Copy, Debug, PartialEq, Eq)]
 pub struct Volatile {
     pub lines: u32,
     pub address: u32,
@@ -90,66 +90,41 @@ fn unless(there: bool, mask: u8) -> u8
 pub const RELEASED: u8 = 1;
 
 // What the pin answers, by whether it is driven, and the bit.
+#[tactic(auto, unfolding(rules::specs::Steps::pin_value))]
 pub fn pin_value(driven: bool, bit: bool) -> u8
     ensures { result ≡ pin_value driven bit }
 {
-    if !driven {
-        return RELEASED;
-    }
-    if bit { 1 } else { 0 }
+    if driven { bit as u8 } else { RELEASED }
 }
 
 // The flags that come with the arrival at 176, 177 or 1232.
+#[tactic(auto, unfolding(crate::specs::Packed::arrival_flags, rules::specs::Halves::unblown))]
 fn arrival(image: &[u8], fuses: u8, a: u32, matched: bool) -> u32
     ensures { result ≡ arrival_flags image.now fuses a matched }
 {
-    if a == 176 {
-        if memory::read_bit(image, 176) {
-            return 2;
-        }
-        return 0;
+    match a {
+        176 if memory::read_bit(image, 176) => 2,
+        177 if memory::read_bit(image, 177) => 4,
+        1232 if !is_set(fuses as u32, EC_EN) & matched => 32,
+        _ => 0,
     }
-    if a == 177 {
-        if memory::read_bit(image, 177) {
-            return 4;
-        }
-        return 0;
-    }
-    if a == 1232 {
-        if !is_set(fuses as u32, EC_EN) & matched {
-            return 32;
-        }
-    }
-    0
 }
 
 // The flag that comes with a write that turned a 1 into 0 while match held: SV in SCAC, E1 in EC at level 2 with EC_EN unblown.
+#[tactic(auto, unfolding(crate::specs::Packed::opening_flags))]
 fn opening(a: u32, l1: bool, ec_en: bool, keyed: bool) -> u32
     ensures { result ≡ opening_flags a l1 ec_en keyed }
 {
-    if !keyed {
-        return 0;
+    match a {
+        96..=103 if keyed => 1,
+        1232..=1359 if keyed & (!l1 & ec_en) => 32,
+        _ => 0,
     }
-    if a < 96 {
-        return 0;
-    }
-    if a <= 103 {
-        return 1;
-    }
-    if a < 1232 {
-        return 0;
-    }
-    if 1359 < a {
-        return 0;
-    }
-    if !l1 & ec_en {
-        return 32;
-    }
-    0
 }
 
 impl Volatile {
     // A fresh card has all lines low.
+    #[tactic(auto, unfolding(crate::specs::Packed::packed, rules::specs::Halves::fresh, rules::specs::Halves::off))]
     pub fn fresh() -> Self
         ensures { result ≡ packed fresh }
     {
@@ -161,6 +136,7 @@ impl Volatile {
     }
 
     // The lines only follow.
+    #[tactic(auto, using(crate::proofs::Edges::follow_word))]
     pub fn follows(mut self, n: u32) -> Self
         ensures { result ≡ packed (follows n (unpacked self)) }
     {
@@ -170,6 +146,7 @@ impl Volatile {
     }
 
     // VCC falls.
+    #[tactic(auto, unfolding(crate::specs::Packed::packed, rules::specs::Halves::off))]
     pub fn power_falls(mut self, n: u32) -> Self
         ensures { result ≡ packed (off n) }
     {
@@ -180,6 +157,7 @@ impl Volatile {
     }
 
     // CLK rises: I/O is latched, and with PGM high programming starts.
+    #[tactic(auto, using(crate::proofs::Edges::rise_word))]
     pub fn clock_rises(mut self, n: u32) -> Self
         ensures { result ≡ packed (clk_rises n (unpacked self)) }
     {
@@ -189,6 +167,7 @@ impl Volatile {
     }
 
     // RST falls: address 0, where E1 and match end.
+    #[tactic(auto, using(crate::proofs::Edges::reset_word))]
     pub fn reset_falls(mut self, n: u32) -> Self
         ensures { result ≡ packed (arrived [] 0 0 (follows n (unpacked self))) }
     {
@@ -199,6 +178,7 @@ impl Volatile {
     }
 
     // CLK falls without programming: the latch is cleared, and match is what the compare gives.
+    #[tactic(auto, using(crate::proofs::Edges::unlatched_word))]
     pub fn unlatched(mut self, n: u32, matched: bool) -> Self
         ensures { result ≡ packed (unlatched n matched (unpacked self)) }
     {
@@ -212,6 +192,7 @@ impl Volatile {
     }
 
     // CLK falls where nothing is compared and nothing comes of the arrival: the latch is cleared, and the address is a.
+    #[tactic(auto, using(crate::proofs::Edges::gone_on_word))]
     pub fn goes_on(mut self, n: u32, a: u32) -> Self
         ensures { result ≡ packed (gone_on n a (unpacked self)) }
     {
@@ -222,28 +203,22 @@ impl Volatile {
     }
 
     // What arriving at an address does.
+    #[tactic(auto, using(crate::proofs::Edges::arrive))]
     pub fn arrives(mut self, image: &[u8], fuses: u8, a: u32) -> Self
         ensures { result ≡ packed (arrived image.now fuses a (unpacked self)) }
     {
         let flags = self.flags;
         self.address = a;
-        if a == 0 {
-            self.flags = flags & BUT_MATCH_AND_E1;
-            return self;
-        }
-        if a == 104 {
-            self.flags = flags & BUT_MATCH;
-            return self;
-        }
-        if a == 1360 {
-            self.flags = flags & BUT_MATCH;
-            return self;
-        }
-        self.flags = (flags & FLAGS) | arrival(image, fuses, a, is_set(flags, MATCH));
+        self.flags = match a {
+            0 => flags & BUT_MATCH_AND_E1,
+            104 | 1360 => flags & BUT_MATCH,
+            _ => (flags & FLAGS) | arrival(image, fuses, a, is_set(flags, MATCH)),
+        };
         self
     }
 
     // CLK falls in programming, whose operation turned a 1 into 0 or did not: SV comes in SCAC, E1 in EC.
+    #[tactic(auto, using(crate::proofs::Edges::programmed_word))]
     pub fn programmed(mut self, n: u32, l1: bool, ec_en: bool, turned: bool) -> Self
         ensures { result ≡ packed (programmed_half l1 ec_en turned n (unpacked self)) }
     {
@@ -255,6 +230,7 @@ impl Volatile {
     }
 
     // Level 1 is FUS high and ISS unblown.
+    #[tactic(auto, unfolding(rules::specs::Rights::level1, rules::specs::Rights::held, crate::specs::Packed::unpacked, rules::specs::Halves::unblown, rules::specs::Lines::high))]
     pub fn level1(self, fuses: u8) -> bool
         ensures { result ≡ level1 (held fuses (unpacked self)) }
     {
@@ -262,44 +238,35 @@ impl Volatile {
     }
 
     // The things that a right may ask for and that are not there.
+    #[tactic(auto, unfolding(rules::specs::Rights::lacking, rules::specs::Rights::held, crate::specs::Packed::unpacked, rules::specs::Halves::unblown, rules::specs::Lines::high))]
     pub fn lacking(self, fuses: u8) -> u8
         ensures { result ≡ lacking (held fuses (unpacked self)) }
     {
         let sv = is_set(self.flags, SV);
-        let flags = 1
-            + unless(sv, 2)
+        let fuses = fuses as u32;
+        1 + unless(sv, 2)
             + unless(is_set(self.flags, P1), 4)
-            + unless(is_set(self.flags, E1), 8);
-        let f = fuses as u32;
-        let lasting = unless(is_set(f, MF), 16) + unless(is_set(f, ISS), 32);
-        let open = sv | is_set(self.flags, R1);
-        flags + lasting + unless(is_set(self.lines, FUS), 64) + unless(open, 128)
+            + unless(is_set(self.flags, E1), 8)
+            + unless(is_set(fuses, MF), 16)
+            + unless(is_set(fuses, ISS), 32)
+            + unless(is_set(self.lines, FUS), 64)
+            + unless(sv | is_set(self.flags, R1), 128)
     }
 
     // Whether the address may be read. Only SC and EZ have rights that take the table.
+    #[tactic(auto, using(crate::proofs::Readable::readable), unfolding(rules::specs::Rights::held, crate::specs::Packed::unpacked))]
     pub fn may_read(self, fuses: u8) -> bool
         ensures { result ≡ may_read (held fuses (unpacked self)) (zone self.address) }
     {
-        let a = self.address;
-        if a < 80 {
-            return true;
+        match self.address {
+            80..=95 | 1200..=1231 => self.may_read_by_table(fuses),
+            176..=1199 => self.flags & SV_OR_R1 != 0,
+            a => a < 1392,
         }
-        if a < 96 {
-            return self.may_read_by_table(fuses);
-        }
-        if a < 176 {
-            return true;
-        }
-        if a < 1200 {
-            return self.flags & SV_OR_R1 != 0;
-        }
-        if a < 1232 {
-            return self.may_read_by_table(fuses);
-        }
-        a < 1392
     }
 
     // The same, by the table of rights.
+    #[tactic(auto, using(crate::proofs::Sums::granted_mask), unfolding(rules::specs::Rights::may_read))]
     pub fn may_read_by_table(self, fuses: u8) -> bool
         ensures { result ≡ may_read (held fuses (unpacked self)) (zone self.address) }
     {
@@ -310,19 +277,15 @@ impl Volatile {
     }
 
     // VCC is on, RST and PGM are low, no programming is under way, and the address may be read.
+    #[tactic(auto, using(crate::proofs::Sums::lines), unfolding(rules::specs::Steps::driven, crate::specs::Packed::unpacked))]
     pub fn driven(self, fuses: u8) -> bool
         ensures { result ≡ driven fuses (unpacked self) }
     {
-        if self.lines & VCC_RST_PGM != 1 {
-            return false;
-        }
-        if is_set(self.flags, PROGRAMMING) {
-            return false;
-        }
-        self.may_read(fuses)
+        self.lines & VCC_RST_PGM == 1 && !is_set(self.flags, PROGRAMMING) && self.may_read(fuses)
     }
 
     // What the pin answers.
+    #[tactic(auto, unfolding(rules::specs::Steps::pin_value))]
     pub fn pin(self, image: &[u8], fuses: u8) -> u8
         ensures { result ≡ pin_value (driven fuses (unpacked self)) (bit image.now self.address) }
     {
@@ -333,44 +296,37 @@ impl Volatile {
     }
 
     // The match that the compare at the present address gives.
+    #[tactic(auto, unfolding(crate::specs::Packed::compared_here, rules::specs::Match::compared, crate::specs::Packed::unpacked))]
     pub fn compared(self, image: &[u8], l1: bool) -> bool
         ensures { result ≡ compared_here image.now l1 (unpacked self) }
     {
         let a = self.address;
         let matched = is_set(self.flags, MATCH);
-        if a < 80 {
-            return matched;
+        match a {
+            80..=95 => {
+                let same = is_set(self.flags, LATCH) == memory::read_bit(image, a as usize);
+                !is_set(self.flags, SV) & (same & ((a == 80) | matched))
+            }
+            1200..=1231 => {
+                let same = is_set(self.flags, LATCH) == memory::read_bit(image, a as usize);
+                !l1 & (same & ((a == 1200) | matched))
+            }
+            _ => matched,
         }
-        if a <= 95 {
-            let same = is_set(self.flags, LATCH) == memory::read_bit(image, a as usize);
-            return !is_set(self.flags, SV) & (same & ((a == 80) | matched));
-        }
-        if a < 1200 {
-            return matched;
-        }
-        if 1231 < a {
-            return matched;
-        }
-        let same = is_set(self.flags, LATCH) == memory::read_bit(image, a as usize);
-        !l1 & (same & ((a == 1200) | matched))
     }
 
     // Whether the operation is carried out, under the flags and lines of the moment.
+    #[tactic(auto, using(crate::proofs::Sums::may_program_by), unfolding(rules::specs::Lines::high, crate::specs::Packed::unpacked))]
     pub fn may_program(self, fuses: u8) -> bool
         ensures { result ≡ may_program_now fuses (unpacked self) }
     {
         let z = zones::zone_of(self.address);
-        if is_set(self.lines, RST) != rights::is_fuse(z) {
-            return false;
-        }
-        let latch = is_set(self.flags, LATCH);
-        let ec_en = is_set(fuses as u32, EC_EN);
-        let asked = rights::asks_of(self.level1(fuses), ec_en, latch, self.address, z);
-        asked & self.lacking(fuses) == 0
+        is_set(self.lines, RST) == rights::is_fuse(z) && self.missing(fuses, z) == 0
     }
 
-    // What the operation asks for in its zone and does not have. `may_program` has the same mask to itself: a function with two callers
-    // is called, and the step would pay for it.
+    // What the operation asks for in its zone and does not have. A part of both its callers, since a step would pay for the call.
+    #[tactic(auto, unfolding(rules::specs::Reason::missing, crate::specs::Packed::unpacked, rules::specs::Halves::unblown))]
+    #[inline(always)]
     pub fn missing(self, fuses: u8, z: Zone) -> u8
         ensures { result ≡ missing fuses (unpacked self) z }
     {
@@ -381,6 +337,7 @@ impl Volatile {
     }
 
     // The operation that takes effect.
+    #[tactic(auto, using(crate::proofs::Sums::operation_by), unfolding(crate::specs::Packed::unpacked))]
     pub fn operation(self, fuses: u8) -> Operation
         ensures { result ≡ operation_now fuses (unpacked self) }
     {
@@ -392,33 +349,25 @@ impl Volatile {
     }
 
     // A powered card outside match and E1: what most steps start from.
+    #[tactic(auto, unfolding(crate::specs::Packed::plainly_sound, crate::specs::Packed::wired))]
     pub fn plainly_sound(self) -> bool
         ensures { result ≡ plainly_sound self }
     {
-        if 63 < self.lines {
-            return false;
-        }
-        if 31 < self.flags {
-            return false;
-        }
-        if rules::LAST < self.address {
-            return false;
-        }
         let wires = self.lines / 4 % 4 + 4 * (self.flags / 8 % 4);
-        (self.lines & 1 == 1) & ((WIRED >> wires) % 2 == 1)
+        let wired = (self.lines & 1 == 1) & ((WIRED >> wires) % 2 == 1);
+        self.lines <= 63 && self.flags <= 31 && self.address <= rules::LAST && wired
     }
 
     // 9: a made-up state.
+    #[tactic(auto, using(crate::proofs::PlainlySound::plainly_sound_lem))]
     pub fn made_up(self) -> bool
         ensures { result ≡ made_up_word self }
     {
-        if self.plainly_sound() {
-            return false;
-        }
-        self.made_up_by_clause()
+        !self.plainly_sound() && self.made_up_by_clause()
     }
 
     // 9, clause by clause.
+    #[tactic(auto, using(crate::proofs::Sums::checked_together), unfolding(rules::specs::Zones::between))]
     pub fn made_up_by_clause(self) -> bool
         ensures { result ≡ made_up_word self }
     {

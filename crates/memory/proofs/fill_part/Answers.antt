@@ -5,7 +5,7 @@ use Rattle.memory.proofs.fill_part.Goals as goal
 
 pub returns-then-count-image : goal.returns-then-count-image
 returns-then-count-image c =
-    put_filled _ _ _ _ _ c.if-first-image.true c.if-count-image.true c.fill.ensures
+    put_filled _ _ _ _ _ c.if-first-image.true c.if-count-image.true (c.fill.ensures.after (λ _ same. same))
 
 pub returns-else-count-image : goal.returns-else-count-image
 returns-else-count-image c = sym (not_filled _ _ _ _ (omega arith))
