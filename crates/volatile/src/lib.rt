@@ -184,12 +184,9 @@ impl Volatile {
     pub fn unlatched(mut self, n: u32, matched: bool) -> Self
         ensures { result ≡ packed (unlatched n matched (unpacked self)) }
     {
+        let kept = self.flags & BUT_OPERATION_AND_MATCH;
         self.lines = n;
-        if matched {
-            self.flags = (self.flags & BUT_OPERATION_AND_MATCH) | 64;
-        } else {
-            self.flags = self.flags & BUT_OPERATION_AND_MATCH;
-        }
+        self.flags = if matched { kept | 64 } else { kept };
         self
     }
 
