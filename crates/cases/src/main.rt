@@ -3,23 +3,22 @@
 
 mod buffers;
 mod effects;
-mod lines;
 mod names;
 mod numbers;
 mod reasons;
 mod steps;
 mod table;
 
+use console::Console;
 use table::Table;
 
 fn main(rt: HostRuntime) {
-    let mut errors = rt.stderr();
-    let out = console::start(&rt, &mut errors, b"cases");
-    let t = Table::new(rt.stdout(), out);
-    let t = t.head(b"Each step from -> to: 0 is accepted, else the number of the refusal.");
-    let t = numbers::rows(t);
-    let t = buffers::rows(t);
-    let t = effects::rows(t);
-    let t = reasons::rows(t);
-    t.total().end(&mut errors, b"cases");
+    let out = Console::start(&rt, rt.stdout(), rt.stderr(), b"cases");
+    let mut t = Table::new(out);
+    t.head(b"Each step from -> to: 0 is accepted, else the number of the refusal.");
+    numbers::rows(&mut t);
+    buffers::rows(&mut t);
+    effects::rows(&mut t);
+    reasons::rows(&mut t);
+    t.end();
 }

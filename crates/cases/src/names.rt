@@ -1,61 +1,52 @@
 // A card's lines and flags in words.
-use crate::lines::{after_line, line_from};
-use console::Output;
+use console::Standard;
 use memory::is_set;
-use std::io::Write;
 use volatile::Volatile;
 
-fn word<W: Write>(to: &mut W, out: Output, there: bool, name: &[u8]) -> Output {
-    if there {
-        return out.say(to, name);
-    }
-    out
-}
+const LINES: [(u32, &[u8]); 6] = [
+    (0, b" VCC"),
+    (1, b" RST"),
+    (2, b" CLK"),
+    (3, b" PGM"),
+    (4, b" I/O"),
+    (5, b" FUS"),
+];
+
+const FLAGS: [(u32, &[u8]); 7] = [
+    (volatile::SV, b" SV"),
+    (volatile::P1, b" P1"),
+    (volatile::R1, b" R1"),
+    (volatile::E1, b" E1"),
+    (volatile::MATCH, b" match"),
+    (volatile::LATCH, b" latch"),
+    (volatile::PROGRAMMING, b" programming"),
+];
 
 // The names of the bits that are set.
-fn named<W: Write>(to: &mut W, out: Output, held: u32, bits: &[u32], names: &[u8]) -> Output {
-    let mut out = out;
-    let mut from = 0;
-    for i in 0..bits.len() {
-        out = word(to, out, is_set(held, bits[i]), line_from(names, from));
-        from = after_line(names, from);
+fn named(out: &mut Standard, held: u32, names: &[(u32, &[u8])]) {
+    for &(bit, name) in names {
+        if is_set(held, bit) {
+            out.say(name);
+        }
     }
-    out
 }
 
 // The levels as a number, and the lines that are high.
-pub(crate) fn lines<W: Write>(to: &mut W, out: Output, levels: u32) -> Output {
-    let out = out.number(to, levels as u64);
-    named(
-        to,
-        out,
-        levels,
-        &[0, 1, 2, 3, 4, 5],
-        b" VCC\n RST\n CLK\n PGM\n I/O\n FUS",
-    )
+pub(crate) fn lines(out: &mut Standard, levels: u32) {
+    out.number(levels as u64);
+    named(out, levels, &LINES);
 }
 
-fn flags<W: Write>(to: &mut W, out: Output, held: u32) -> Output {
-    let out = named(
-        to,
-        out,
-        held,
-        &[
-            volatile::SV,
-            volatile::P1,
-            volatile::R1,
-            volatile::E1,
-            volatile::MATCH,
-            volatile::LATCH,
-            volatile::PROGRAMMING,
-        ],
-        b" SV\n P1\n R1\n E1\n match\n latch\n programming",
-    );
-    word(to, out, 127 < held, b" no card's flag")
+fn flags(out: &mut Standard, held: u32) {
+    named(out, held, &FLAGS);
+    if 127 < held {
+        out.say(b" no card's flag");
+    }
 }
 
-pub(crate) fn half<W: Write>(to: &mut W, out: Output, v: Volatile) -> Output {
-    let out = lines(to, out, v.lines);
-    let out = out.say(to, b" at ").number(to, v.address as u64);
-    flags(to, out, v.flags)
+pub(crate) fn half(out: &mut Standard, v: Volatile) {
+    lines(out, v.lines);
+    out.say(b" at ");
+    out.number(v.address as u64);
+    flags(out, v.flags);
 }

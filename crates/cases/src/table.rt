@@ -1,103 +1,79 @@
 // The rows of the table, and how many of them differ.
 use crate::names;
-use console::Output;
-use std::io::Stdout;
+use console::Standard;
 use volatile::Volatile;
 
-#[derive(Clone, Copy)]
+#[derive(Drop)]
 pub(crate) struct Table {
-    to: Stdout,
-    out: Output,
+    out: Standard,
     differences: u32,
 }
 
 impl Table {
-    pub(crate) fn new(to: Stdout, out: Output) -> Table {
+    pub(crate) fn new(out: Standard) -> Table {
         Table {
-            to: to,
-            out: out,
+            out,
             differences: 0,
         }
     }
 
-    fn with(self, out: Output) -> Table {
-        Table {
-            to: self.to,
-            out: out,
-            differences: self.differences,
-        }
-    }
-
     // One difference more, unless expected and got are the same.
-    fn counted(mut self, same: bool) -> Table {
+    fn count(&mut self, same: bool) {
         if !same {
-            self.differences = std::num::wrapping_add_u32(self.differences, 1);
+            self.differences = self.differences.wrapping_add(1);
         }
-        self
     }
 
-    pub(crate) fn head(self, text: &[u8]) -> Table {
-        let mut to = self.to;
-        let out = self.out;
-        self.with(
-            out.say(&mut to, b"\n")
-                .say(&mut to, text)
-                .say(&mut to, b"\n"),
-        )
+    pub(crate) fn head(&mut self, text: &[u8]) {
+        self.out.say(b"\n");
+        self.out.say(text);
+        self.out.say(b"\n");
     }
 
     // The end of a row.
-    pub(crate) fn numbers(self, expected: u64, got: u64) -> Table {
-        let mut to = self.to;
-        let out = self.out;
-        let out = out.say(&mut to, b": expected ").number(&mut to, expected);
-        let out = out
-            .say(&mut to, b", got ")
-            .number(&mut to, got)
-            .say(&mut to, b"\n");
-        self.with(out).counted(expected == got)
+    pub(crate) fn numbers(&mut self, expected: u64, got: u64) {
+        self.out.say(b": expected ");
+        self.out.number(expected);
+        self.out.say(b", got ");
+        self.out.number(got);
+        self.out.say(b"\n");
+        self.count(expected == got);
     }
 
     // A row of a thing and its number.
-    pub(crate) fn row(self, thing: &[u8], n: u64, expected: u64, got: u64) -> Table {
-        let mut to = self.to;
-        let out = self.out;
-        self.with(out.say(&mut to, thing).number(&mut to, n))
-            .numbers(expected, got)
+    pub(crate) fn row(&mut self, thing: &[u8], n: u64, expected: u64, got: u64) {
+        self.out.say(thing);
+        self.out.number(n);
+        self.numbers(expected, got);
     }
 
     // The start of a row: a run, a step, from this half.
-    pub(crate) fn from(self, v: Volatile) -> Table {
-        let mut to = self.to;
-        let out = self.out;
-        let out = out.say(&mut to, b"  ");
-        self.with(names::half(&mut to, out, v))
+    pub(crate) fn from(&mut self, v: Volatile) {
+        self.out.say(b"  ");
+        names::half(&mut self.out, v);
     }
 
-    pub(crate) fn step(self, v: Volatile, n: u8) -> Table {
-        let t = self.from(v);
-        let mut to = t.to;
-        let out = t.out;
-        let out = out.say(&mut to, b" -> ");
-        t.with(names::lines(&mut to, out, n as u32))
+    pub(crate) fn step(&mut self, v: Volatile, n: u8) {
+        self.from(v);
+        self.out.say(b" -> ");
+        names::lines(&mut self.out, n as u32);
     }
 
     // A row of the volatile half.
-    pub(crate) fn half(self, expected: Volatile, got: Volatile) -> Table {
-        let mut to = self.to;
-        let out = self.out;
-        let out = out.say(&mut to, b"  result: expected ");
-        let out = names::half(&mut to, out, expected);
-        let out = out.say(&mut to, b", got ");
-        let out = names::half(&mut to, out, got);
-        self.with(out.say(&mut to, b"\n")).counted(expected == got)
+    pub(crate) fn half(&mut self, expected: Volatile, got: Volatile) {
+        self.out.say(b"  result: expected ");
+        names::half(&mut self.out, expected);
+        self.out.say(b", got ");
+        names::half(&mut self.out, got);
+        self.out.say(b"\n");
+        self.count(expected == got);
     }
 
-    pub(crate) fn total(self) -> Output {
-        let mut to = self.to;
-        let out = self.out;
-        out.say(&mut to, b"\ndifferences: ")
-            .number(&mut to, self.differences as u64)
-            .say(&mut to, b"\n")
+    pub(crate) fn end(mut self) {
+        let differences = self.differences as u64;
+        self.out.say(b"\ndifferences: ");
+        self.out.number(differences);
+        self.out.say(b"\n");
+        self.out.end();
     }
 }

@@ -1,3 +1,4 @@
+pub mod Determined
 mod Laws
 mod Known
 mod Line

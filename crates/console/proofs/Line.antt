@@ -1,5 +1,5 @@
 -- A line in a buffer that it may not fit: a front of it stands there, and is told.
-use Rattle.std.proofs.Common.{◌≡◌, Bool, true, false, Option, ℕ, ◌≤◌, List, ◌++◌, length, take, drop, refl, sym, ◌∙◌, arith, take_all, take-take, take-append-drop, length-take, length-take-le}
+use Rattle.std.proofs.Common.{◌≡◌, Result, Ok, Err, Option, ℕ, ◌≤◌, List, ◌++◌, length, take, drop, refl, sym, ◌∙◌, arith, take_all, take-take, take-append-drop, length-take, length-take-le}
 use native.Mathlib.Decide.{dec_le}
 use lib.Seq.{sets}
 use Rattle.memory.specs.Buffer.{Put}
@@ -30,10 +30,10 @@ at_front {room} {after} {bytes} {n} p = go (dec_le (length bytes) (length room))
     go (no h) = cut (omega arith) p
 
 pub told :
-    (whole : Bool) (before after : Option (List ℕ)) (line : List ℕ) (n : ℕ) → AsFarAs whole before after (take n line) →
-    Told before after line
-told true before after line n h = (n, h)
-told false before after line n (k, h) = go (dec_le k n)
+    {A E : Type 0} (whole : Result A E) (before after : Option (List ℕ)) (line : List ℕ) (n : ℕ)
+    → AsFarAs whole before after (take n line) → Told before after line
+told (Ok done) before after line n h = (n, h)
+told (Err e) before after line n (k, h) = go (dec_le k n)
   where
     go : Dec (k ≤ n) → Told before after line
     go (yes l) = (k, rw (take-take k n line l) at h)

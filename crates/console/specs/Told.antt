@@ -1,9 +1,7 @@
 -- The line on standard error.
-use Rattle.std.specs.Prelude.{ℕ, List, [], ◌∷◌, ◌++◌, take, Option}
+use Rattle.std.specs.Prelude.{ℕ, List, [], ◌∷◌, ◌++◌, take, Result, Ok, Err, Option}
 use Rattle.std.specs.Io.KnownBytes.{Keeps, Appends}
 use Rattle.report.specs.Lines.{newline}
-use Rattle.console.specs.declared.Input.{Input}
-use Rattle.console.specs.declared.Input.TheVariants.{Bytes, Unreadable}
 use Rattle.console.specs.declared.Output.{Output}
 use Rattle.console.specs.declared.Output.TheVariants.{Open, Lost, Stopped}
 
@@ -24,9 +22,9 @@ abbrev pub TellsWhat : Option (List ℕ) → Option (List ℕ) → List ℕ → 
 TellsWhat before after program = (what : List ℕ) × Told before after (told_line program what [])
 
 -- An input that cannot be read is told, and no other.
-abbrev pub InputTold : Input → Option (List ℕ) → Option (List ℕ) → List ℕ → Type 0
-InputTold (Bytes n) before after program = Keeps before after
-InputTold Unreadable before after program = TellsWhat before after program
+abbrev pub InputTold : {E : Type 0} → Result ℕ E → Option (List ℕ) → Option (List ℕ) → List ℕ → Type 0
+InputTold (Ok n) before after program = Keeps before after
+InputTold (Err e) before after program = TellsWhat before after program
 
 -- A program that stops at its start tells why.
 abbrev pub StartTold : Output → Option (List ℕ) → Option (List ℕ) → List ℕ → Type 0

@@ -1,38 +1,50 @@
 // A program's ends: its arguments, its input and its output. What fails there is told in one line on standard error.
 #![tactic(auto)]
 
-ghost use Rattle.std.specs.Prelude.{◌≡◌, length};
+ghost use Rattle.std.specs.Prelude.{◌≡◌, ◌↔◌, IsTrue};
 ghost use Rattle.memory.specs.Buffer.{Put};
 ghost use Rattle.decimal.specs.Decimal.{decimal};
 ghost use Rattle.console.specs.Told.{told_line, Told, InputTold, StartTold, StopTold, EndTold};
-ghost use Rattle.console.specs.Ends.{outcome, Part, Moved, Taken, Consumed, NotLost, Said, AsFarAs, Written, stopped, ended};
+ghost use Rattle.console.specs.Ends.{Taken, Consumed, NotLost, Said, AsFarAs, Written, stopped, ended};
 
 use std::env::FillError;
 use std::io;
+use std::io::{Stderr, Stdout};
 use std::rt::Env;
 
-// The outcome of one read.
+// A read failed, which is not the end of the input.
 #[derive(Clone, Copy)]
-enum Read {
-    Failed,
-    End,
-    More(usize),
+pub struct Unreadable;
+
+impl From<io::Error> for Unreadable {
+    fn from(_error: io::Error) -> Unreadable {
+        Unreadable
+    }
 }
 
-// What an input had for a buffer: so many bytes, at its start. Or a read failed, which is not the end of the input.
+// A write failed or took nothing.
 #[derive(Clone, Copy)]
-pub enum Input {
-    Bytes(usize),
-    Unreadable,
-}
+struct Unwritten;
 
 // Standard output so far: all that was said is written; a write failed; or the program stopped, which was told.
-#[derive(Clone, Copy)]
+#[derive(Clone, Copy, PartialEq, Eq)]
 pub enum Output {
     Open,
     Lost,
     Stopped,
 }
+
+// What a program of this name, which takes no arguments, writes to.
+#[derive(Drop)]
+pub struct Console<W, E> {
+    pub to: W,
+    pub errors: E,
+    pub program: &'static [u8],
+    pub output: Output,
+}
+
+// A console on the program's own output.
+pub type Standard = Console<Stdout, Stderr>;
 
 // `PROGRAM: what which`, a line.
 fn put_told(out: &mut [u8], program: &[u8], what: &[u8], which: &[u8]) -> usize
@@ -45,23 +57,18 @@ fn put_told(out: &mut [u8], program: &[u8], what: &[u8], which: &[u8]) -> usize
     memory::put(out, after_which, b"\n")
 }
 
-// Writes the whole text. Or a write failed or took nothing, and a front of it is written.
-fn write_whole<W: io::Write>(to: &mut W, text: &[u8]) -> bool
+// Writes the whole text, or a front of it. `write_all` doesn't say what is written where it fails.
+fn write_whole<W: io::Write>(to: &mut W, text: &[u8]) -> Result<(), Unwritten>
     ensures { AsFarAs result (W.contents to.old) (W.contents to.new) text.now }
 {
-    let mut done = 0;
-    while done < text.len() {
-        match to.write(&text[done..]) {
-            Ok(n) => {
-                if n == 0 {
-                    return false;
-                }
-                done += n;
-            }
-            Err(_) => return false,
+    let mut rest = text;
+    while !rest.is_empty() {
+        match to.write(rest) {
+            Ok(0) | Err(_) => return Err(Unwritten),
+            Ok(n) => rest = &rest[n..],
         }
     }
-    true
+    Ok(())
 }
 
 // In one write, so that the lines of two programs don't mix. A line over 80 bytes is cut.
@@ -70,142 +77,126 @@ fn tell<E: io::Write>(errors: &mut E, program: &[u8], what: &[u8], which: &[u8])
 {
     let mut line = [0u8; 80];
     let n = put_told(&mut line, program, what, which);
-    write_whole(errors, &line[..n]);
-}
-
-fn outcome_of(got: io::Result<usize>, into: &[u8]) -> Read
-    ensures { result ≡ outcome got (length into.now) }
-{
-    let Ok(count) = got else {
-        return Read::Failed;
-    };
-    let n = count.min(into.len());
-    if n == 0 {
-        return Read::End;
-    }
-    Read::More(n)
-}
-
-fn read_once<R: io::Read>(from: &mut R, into: &mut [u8]) -> Read
-    ensures part { Part result (length into.old) }
-    ensures moved { Moved result (R.remaining from.old) (R.remaining from.new) into.new }
-{
-    let got = from.read(into);
-    outcome_of(got, into)
+    let _ = write_whole(errors, &line[..n]);
 }
 
 // Reads until the buffer is full or the input ends.
-pub fn read_full<R: io::Read>(from: &mut R, into: &mut [u8]) -> Input
+pub fn read_full<R: io::Read>(from: &mut R, into: &mut [u8]) -> Result<usize, Unreadable>
     ensures taken { Taken result into.new }
     ensures consumed { Consumed result (R.remaining from.old) (R.remaining from.new) into.new }
 {
     let mut done = 0;
     while done < into.len() {
-        match read_once(from, &mut into[done..]) {
-            Read::Failed => return Input::Unreadable,
-            Read::End => return Input::Bytes(done),
-            Read::More(n) => done += n,
+        match from.read(&mut into[done..])? {
+            0 => return Ok(done),
+            n => done += n,
         }
     }
-    Input::Bytes(done)
-}
-
-// Standard input.
-pub fn read_input<R: io::Read, E: io::Write>(
-    from: &mut R,
-    errors: &mut E,
-    program: &[u8],
-    into: &mut [u8],
-) -> Input
-    ensures taken { Taken result into.new }
-    ensures consumed { Consumed result (R.remaining from.old) (R.remaining from.new) into.new }
-    ensures told { InputTold result (E.contents errors.old) (E.contents errors.new) program.now }
-{
-    let read = read_full(from, into);
-    if let Input::Unreadable = read {
-        tell(errors, program, b"standard input cannot be read", b"");
-    }
-    read
+    Ok(done)
 }
 
 // Whether the program was given an argument, be it empty. The first is its name.
 fn has_argument<R: Env>(rt: &R) -> bool {
     let mut start = [0u8; 1];
-    match rt.arg(1, &mut start) {
-        Err(FillError::NotPresent) => false,
-        _ => true,
-    }
+    !matches!(rt.arg(1, &mut start), Err(FillError::NotPresent))
 }
 
-// The output of a program, which takes no arguments.
-pub fn start<R: Env, E: io::Write>(rt: &R, errors: &mut E, program: &[u8]) -> Output
-    ensures not_lost { NotLost result }
-    ensures told { StartTold result (E.contents errors.old) (E.contents errors.new) program.now }
-{
-    if has_argument(rt) {
-        tell(errors, program, b"takes no arguments", b"");
-        return Output::Stopped;
-    }
-    Output::Open
-}
-
-impl Output {
-    pub fn say<W: io::Write>(self, to: &mut W, text: &[u8]) -> Output
-        ensures said { Said self result }
-        ensures written { Written self result (W.contents to.old) (W.contents to.new) text.now }
+impl<W: io::Write, E: io::Write> Console<W, E> {
+    pub fn start<R: Env>(rt: &R, to: W, errors: E, program: &'static [u8]) -> Console<W, E>
+        ensures not_lost { NotLost result.output }
+        ensures told { StartTold result.output (E.contents errors) (E.contents result.errors) program.now }
+        ensures unsaid { result.to ≡ to }
+        ensures program { result.program ≡ program.entry }
     {
-        let Output::Open = self else {
-            return self;
+        let mut out = Console {
+            to,
+            errors,
+            program,
+            output: Output::Open,
         };
-        if write_whole(to, text) {
-            Output::Open
-        } else {
-            Output::Lost
+        if has_argument(rt) {
+            out.stop(b"takes no arguments", b"");
+        }
+        out
+    }
+
+    pub fn is_open(&self) -> bool
+        ensures { IsTrue result ↔ (self.now.output ≡ Output.Open) }
+    {
+        self.output == Output::Open
+    }
+
+    // Standard input.
+    pub fn read_input<R: io::Read>(
+        &mut self,
+        from: &mut R,
+        into: &mut [u8],
+    ) -> Result<usize, Unreadable>
+        ensures taken { Taken result into.new }
+        ensures consumed { Consumed result (R.remaining from.old) (R.remaining from.new) into.new }
+        ensures told { InputTold result (E.contents self.old.errors) (E.contents self.new.errors) self.old.program.now }
+        ensures kept { self.new ≡ record self.old { errors = self.new.errors } }
+    {
+        let read = read_full(from, into);
+        if read.is_err() {
+            tell(
+                &mut self.errors,
+                self.program,
+                b"standard input cannot be read",
+                b"",
+            );
+        }
+        read
+    }
+
+    pub fn say(&mut self, text: &[u8])
+        ensures said { Said self.old.output self.new.output }
+        ensures written { Written self.old.output self.new.output (W.contents self.old.to) (W.contents self.new.to) text.now }
+        ensures kept { self.new ≡ record self.old { to = self.new.to; output = self.new.output } }
+    {
+        if self.is_open() && write_whole(&mut self.to, text).is_err() {
+            self.output = Output::Lost;
         }
     }
 
-    pub fn number<W: io::Write>(self, to: &mut W, n: u64) -> Output
-        ensures said { Said self result }
-        ensures written { Written self result (W.contents to.old) (W.contents to.new) (decimal n) }
+    pub fn number(&mut self, n: u64)
+        ensures said { Said self.old.output self.new.output }
+        ensures written { Written self.old.output self.new.output (W.contents self.old.to) (W.contents self.new.to) (decimal n) }
+        ensures kept { self.new ≡ record self.old { to = self.new.to; output = self.new.output } }
     {
         let mut digits = [0u8; 20];
         let k = decimal::put_decimal(&mut digits, 0, n as usize);
-        self.say(to, &digits[..k])
+        self.say(&digits[..k])
     }
 
     // Tells why the program stops, unless it stopped before or the output is lost, which `end` tells.
-    pub fn stop<E: io::Write>(
-        self,
-        errors: &mut E,
-        program: &[u8],
-        what: &[u8],
-        which: &[u8],
-    ) -> Output
-        ensures state { result ≡ stopped self }
-        ensures told { StopTold self (E.contents errors.old) (E.contents errors.new) (told_line program.now what.now which.now) }
+    #[tactic(auto, using(crate::proofs::Laws::stops, crate::proofs::Laws::stands))]
+    pub fn stop(&mut self, what: &[u8], which: &[u8])
+        ensures state { self.new.output ≡ stopped self.old.output }
+        ensures told { StopTold self.old.output (E.contents self.old.errors) (E.contents self.new.errors) (told_line self.old.program.now what.now which.now) }
+        ensures kept { self.new ≡ record self.old { errors = self.new.errors; output = self.new.output } }
     {
-        match self {
-            Output::Open => {
-                tell(errors, program, what, which);
-                Output::Stopped
-            }
-            Output::Lost => Output::Lost,
-            Output::Stopped => Output::Stopped,
+        if self.is_open() {
+            tell(&mut self.errors, self.program, what, which);
+            self.output = Output::Stopped;
         }
     }
 
     // Tells of an output that is lost, once.
-    pub fn end<E: io::Write>(self, errors: &mut E, program: &[u8]) -> Output
-        ensures state { result ≡ ended self }
-        ensures told { EndTold self (E.contents errors.old) (E.contents errors.new) program.now }
+    #[tactic(auto, using(crate::proofs::Laws::ends, crate::proofs::Laws::is_ended))]
+    pub fn end(&mut self)
+        ensures state { self.new.output ≡ ended self.old.output }
+        ensures told { EndTold self.old.output (E.contents self.old.errors) (E.contents self.new.errors) self.old.program.now }
+        ensures kept { self.new ≡ record self.old { errors = self.new.errors; output = self.new.output } }
     {
-        match self {
-            Output::Open => Output::Open,
-            Output::Lost => {
-                tell(errors, program, b"standard output cannot be written", b"");
-                Output::Stopped
-            }
-            Output::Stopped => Output::Stopped,
+        if self.output == Output::Lost {
+            tell(
+                &mut self.errors,
+                self.program,
+                b"standard output cannot be written",
+                b"",
+            );
+            self.output = Output::Stopped;
         }
     }
 }

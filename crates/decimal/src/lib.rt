@@ -5,27 +5,23 @@ ghost use Rattle.std.specs.Prelude.{◌≡◌, ◌∷◌, [], ◌≤◌, length}
 ghost use Rattle.memory.specs.Buffer.{Put};
 ghost use Rattle.decimal.specs.Decimal.{digit, decimal};
 
-// How many digits x has.
+// How many digits x has: one for 0 too.
+#[tactic(auto, using(crate::proofs::Digits::by_powers))]
 pub fn places(x: usize) -> usize
     ensures { (result ≡ length (decimal x)) × (result ≤ 20) }
 {
-    let mut n = 1;
-    let mut rest = x;
-    while 10 <= rest {
-        rest = rest / 10;
-        n += 1;
-    }
-    n
+    x.max(1).ilog10() as usize + 1
 }
 
 // The last decimal digit of x.
+#[tactic(auto, unfolding(crate::specs::Decimal::digit))]
 pub fn put_digit(out: &mut [u8], at: usize, x: usize) -> usize
     ensures { Put out.old at (digit x ∷ []) result out.new }
 {
-    let one = [48 + (x % 10) as u8];
-    memory::put(out, at, &one)
+    memory::put(out, at, &[b'0' + (x % 10) as u8])
 }
 
+#[tactic(auto, using(crate::proofs::Digits::one_digit))]
 pub fn put_decimal(out: &mut [u8], at: usize, x: usize) -> usize
     ensures { Put out.old at (decimal x) result out.new }
 {

@@ -92,14 +92,10 @@ fn reason_of(fuses: u8, v: Volatile) -> Reason
 }
 
 // Why CLK's fall would change nothing by right, or that the right is there; 10, 14, 9. PGM is taken as low already.
-#[tactic(auto, unfolding(crate::specs::Reasons::reason_answer, refusals::specs::Before::given_refusal, rules::specs::Refusals::before_a_step, rules::specs::Numbers::numbered))]
+#[tactic(auto, unfolding(crate::specs::Reasons::reason_answer, rules::specs::Numbers::numbered, rules::specs::Numbers::number_in))]
 pub fn reason(image: &[u8], fuses: u8, v: Volatile) -> Result<Reason, Refusal>
     ensures { numbered result ≡ reason_answer image.now fuses v }
 {
-    match refusals::state_refusal(image, fuses, v) {
-        0 => Ok(reason_of(fuses, v)),
-        10 => Err(Refusal::ImageLength),
-        14 => Err(Refusal::FuseByte),
-        _ => Err(Refusal::MadeUp),
-    }
+    refusals::state_refusal(image, fuses, v)?;
+    Ok(reason_of(fuses, v))
 }

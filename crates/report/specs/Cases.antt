@@ -1,6 +1,6 @@
 -- 01, "Card file and session": what the session program prints of some numbers and runs, and what a text leaves of its buffer.
 -- `proofs.AgainstCases` computes it from the definitions.
-use Rattle.std.specs.Prelude.{ℕ, ◌≡◌, List, [], ◌∷◌, map, replicate, set}
+use Rattle.std.specs.Prelude.{ℕ, ◌≡◌, List, [], ◌∷◌, map, replicate, set, Some, None}
 use Prim.Native.Char.{code}
 use Prim.Native.String.{String}
 use Prim.Native.String as text
@@ -9,7 +9,6 @@ use Rattle.memory.specs.Buffer.{Put}
 use Rattle.rules.specs.Card.{Ran, checked_run, tries_left}
 use Rattle.rules.specs.Demands.{fresh_card}
 use Rattle.rules.specs.CaseForms.{none, card_at, image, sample}
-use Rattle.report.specs.declared.Text.TheVariants.{Wrote, TooSmall}
 use Rattle.decimal.specs.Decimal.{digit, digits_within, decimal}
 use Rattle.report.specs.Lines.{numbered, line, answers_line, bad_text, four_lines}
 use Rattle.report.specs.Buffer.{Made, Enough}
@@ -63,15 +62,15 @@ TextsPrint =
 -- A text in a buffer that is longer, just long enough, and too small: "b\n" is 98 and 10.
 abbrev pub TextsFit : Type 0
 TextsFit =
-    Made (98 ∷ 10 ∷ []) (70 ∷ 71 ∷ 72 ∷ []) (Wrote 2) (98 ∷ 10 ∷ 72 ∷ []) ×
-    Made (98 ∷ 10 ∷ []) (70 ∷ 71 ∷ []) (Wrote 2) (98 ∷ 10 ∷ []) ×
-    Made (98 ∷ 10 ∷ []) (70 ∷ []) TooSmall (70 ∷ []) ×
-    Made (quoted case_s_text) (replicate 37 0) (Wrote 37) (quoted case_s_text) ×
-    Made (quoted case_s_text) (replicate 36 0) TooSmall (replicate 36 0) ×
+    Made (98 ∷ 10 ∷ []) (70 ∷ 71 ∷ 72 ∷ []) (Some 2) (98 ∷ 10 ∷ 72 ∷ []) ×
+    Made (98 ∷ 10 ∷ []) (70 ∷ 71 ∷ []) (Some 2) (98 ∷ 10 ∷ []) ×
+    Made (98 ∷ 10 ∷ []) (70 ∷ []) None (70 ∷ []) ×
+    Made (quoted case_s_text) (replicate 37 0) (Some 37) (quoted case_s_text) ×
+    Made (quoted case_s_text) (replicate 36 0) None (replicate 36 0) ×
     -- Parts of a text: inside the buffer, at its end, past it.
     Put (70 ∷ 71 ∷ 72 ∷ 73 ∷ []) 1 (98 ∷ 10 ∷ []) 3 (70 ∷ 98 ∷ 10 ∷ 73 ∷ []) ×
     Put (70 ∷ 71 ∷ 72 ∷ []) 2 (98 ∷ 10 ∷ []) 3 (70 ∷ 71 ∷ 98 ∷ []) ×
     Put (70 ∷ 71 ∷ []) 4 (98 ∷ 10 ∷ []) 4 (70 ∷ 71 ∷ []) ×
     -- Where 4 bytes are enough, a buffer of 4 is not too small, and one of 3 may be.
-    (Enough 4 4 TooSmall → ⊥) ×
-    Enough 4 3 TooSmall
+    (Enough 4 4 None → ⊥) ×
+    Enough 4 3 None

@@ -5,14 +5,13 @@ ghost use Rattle.std.specs.Prelude.{◌≡◌};
 ghost use Rattle.report.specs.Buffer.{Made};
 ghost use Rattle.fresh_run.specs.FreshRun.{session_text};
 
-use console::{Input, Output};
+use console::Console;
 use file::Session;
-use report::Text;
 
 // As `fresh_run::session_text`: here too, since "The opener's enum, holding fuses and step count as numbers, is taken apart by `let .. else`
 // in the session program".
 #[tactic(auto, using(fresh_run::proofs::SessionTexts::refused_text, fresh_run::proofs::SessionTexts::opened_text), unfolding(rules::specs::Numbers::numbered, rules::specs::Numbers::refused, file::specs::Opening::in_memory))]
-fn answer(session: &[u8], out: &mut [u8]) -> Text
+fn answer(session: &[u8], out: &mut [u8]) -> Option<usize>
     ensures { Made (session_text session.now) out.old result out.new }
 {
     let mut memory = [0u8; rules::BYTES];
@@ -26,20 +25,17 @@ fn answer(session: &[u8], out: &mut [u8]) -> Text
 
 // A session has at most 181 + 4096 bytes, so one more tells a longer input. 4,202 bytes hold every text.
 fn main(rt: HostRuntime) {
-    let mut errors = rt.stderr();
-    let out = console::start(&rt, &mut errors, b"session");
-    let Output::Open = out else {
+    let mut out = Console::start(&rt, rt.stdout(), rt.stderr(), b"session");
+    if !out.is_open() {
         return;
-    };
+    }
     let mut input = [0u8; 4278];
-    let Input::Bytes(n) = console::read_input(&mut rt.stdin(), &mut errors, b"session", &mut input)
-    else {
+    let Ok(n) = out.read_input(&mut rt.stdin(), &mut input) else {
         return;
     };
     let mut text = [0u8; 4202];
-    let Text::Wrote(length) = answer(&input[..n], &mut text) else {
-        return;
-    };
-    out.say(&mut rt.stdout(), &text[..length])
-        .end(&mut errors, b"session");
+    if let Some(length) = answer(&input[..n], &mut text) {
+        out.say(&text[..length]);
+        out.end();
+    }
 }

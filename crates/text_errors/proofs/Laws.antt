@@ -8,16 +8,9 @@ use mathlib.Core.List.{List, [], ◌∷◌}
 use lib.Dec.{eqb}
 use lib.ListN.{length, length-append}
 use Rattle.words.specs.Names.{bytes_of}
-use Rattle.memory.specs.Buffer.{Put}
 use Rattle.decimal.proofs.Digits.{few_digits, at_most_twenty}
 use Rattle.report.proofs.Lengths.{length_numbered}
 use Rattle.text_errors.specs.ErrorLine.{table, words_in, words, error_line, enough}
-
--- The words of a row are those of the refusal that has its number.
-pub in_row :
-    {l m : List ℕ} {at n refusal number : ℕ} (rows : List (ℕ × String)) → refusal ≡ number →
-    Put l at (bytes_of (words_in rows number)) n m → Put l at (bytes_of (words_in rows refusal)) n m
-in_row rows e p = rw e p
 
 -- The longest words of some rows.
 unfoldable longest : List (ℕ × String) → ℕ

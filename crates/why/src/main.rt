@@ -3,108 +3,85 @@
 #![tactic(auto)]
 
 use card::Ran;
-use console::{Input, Output};
+use console::{Console, Standard};
 use file::Session;
 use rules::{Reason, Refusal};
-use std::io::Write;
 use volatile::Volatile;
 
 // The reason, and what to do about it.
-fn in_words<W: Write>(to: &mut W, out: Output, r: Reason) -> Output {
+fn in_words(r: Reason) -> &'static [u8] {
     match r {
-        Reason::NoProgramming => out.say(
-            to,
+        Reason::NoProgramming =>
             b"no programming under way: with VCC on and CLK low raise PGM, set I/O (low writes, high erases), raise CLK, and ask before it falls\n",
-        ),
-        Reason::NothingStored => out.say(
-            to,
+        Reason::NothingStored =>
             b"the address stores nothing: go elsewhere; 1424 to 1480 and 1482 to 1503 store nothing\n",
-        ),
-        Reason::WrongRST => out.say(
-            to,
+        Reason::WrongRST =>
             b"RST at the wrong level: let CLK fall, then raise RST at a fuse, lower it elsewhere and walk back, since its fall goes to address 0\n",
-        ),
-        Reason::NeverAllowed => out.say(
-            to,
+        Reason::NeverAllowed =>
             b"never allowed for this zone at this level: no flag helps; level 1 (FUS high, ISS unblown) allows it, but not in FZ, nor the erase of a fuse; at level 2 AZ is erased in EC, with EC_EN blown at 1232 only\n",
-        ),
-        Reason::SVMissing => out.say(to, b"SV missing: open the card first\n"),
-        Reason::P1Missing => out.say(
-            to,
+        Reason::SVMissing => b"SV missing: open the card first\n",
+        Reason::P1Missing =>
             b"P1 missing: bit 176 was 0 on arrival; erase it, at level 1 or by an erase in EC, then reset and arrive at 176 again\n",
-        ),
-        Reason::E1Missing => out.say(
-            to,
+        Reason::E1Missing =>
             b"E1 missing: open, then show the erase key at 1200 to 1231 at level 2 and, with EC_EN unblown, write a 1 of EC to 0, all without passing address 0\n",
-        ),
-        Reason::MFBlown => out.say(to, b"MF blown: for good, MFZ stays as it is\n"),
-        Reason::ISSBlown => out.say(
-            to,
+        Reason::MFBlown => b"MF blown: for good, MFZ stays as it is\n",
+        Reason::ISSBlown =>
             b"ISS blown: for good, the block word does nothing any more, and no fuse can be blown\n",
-        ),
-        Reason::FUSLow => out.say(
-            to,
-            b"FUS low: let CLK fall, then raise FUS and start again\n",
-        ),
-        Reason::RightIsThere => out.say(
-            to,
+        Reason::FUSLow => b"FUS low: let CLK fall, then raise FUS and start again\n",
+        Reason::RightIsThere =>
             b"the right is there: lower PGM, then CLK; a write on a 0, an erase of 1s and a second blow of MF or EC_EN change nothing all the same, and an erase in EC at level 2 erases AZ\n",
-        ),
     }
 }
 
 // The card after its run is never refused.
-fn tell_reason<W: Write>(to: &mut W, out: Output, told: Result<Reason, Refusal>) -> Output {
-    match told {
-        Ok(reason) => {
-            let out = out
-                .say(to, b"reason ")
-                .number(to, looks::number_of(reason) as u64);
-            let out = out.say(to, b", ");
-            in_words(to, out, reason)
-        }
-        Err(_) => out,
+fn tell_reason(out: &mut Standard, told: Result<Reason, Refusal>) {
+    if let Ok(reason) = told {
+        out.say(b"reason ");
+        out.number(looks::number_of(reason) as u64);
+        out.say(b", ");
+        out.say(in_words(reason));
     }
 }
 
-fn tell_run<W: Write>(to: &mut W, out: Output, ran: Ran, given: usize) -> Output {
-    let out = out.say(to, b"done ").number(to, ran.done as u64);
-    let out = out.say(to, b" of ").number(to, given as u64);
-    out.say(to, b"\nrefused ")
-        .number(to, ran.refusal as u64)
-        .say(to, b"\n")
+fn tell_run(out: &mut Standard, ran: Ran, given: usize) {
+    out.say(b"done ");
+    out.number(ran.done as u64);
+    out.say(b" of ");
+    out.number(given as u64);
+    out.say(b"\nrefused ");
+    out.number(rules::number_if_any(ran.refusal) as u64);
+    out.say(b"\n");
 }
 
-fn answer<W: Write>(to: &mut W, out: Output, session: &[u8]) -> Output {
+fn answer(out: &mut Standard, session: &[u8]) {
     let mut memory = [0u8; rules::BYTES];
     match file::open_session(session, &mut memory) {
-        Err(refusal) => out
-            .say(to, b"bad ")
-            .number(to, refusal.number() as u64)
-            .say(to, b"\n"),
+        Err(refusal) => {
+            out.say(b"bad ");
+            out.number(refusal.number() as u64);
+            out.say(b"\n");
+        }
         Ok(Session { fuses, steps }) => {
             let section = file::step_section(session, rules::BYTES);
             let mut answers = [0u8; rules::LONGEST];
             let ran = card::run(&mut memory, fuses, Volatile::fresh(), section, &mut answers);
-            let half = ran.volatile;
-            let told = looks::reason(&memory, ran.fuses, half);
-            let out = tell_run(to, out, ran, steps);
-            tell_reason(to, out, told)
+            let told = looks::reason(&memory, ran.fuses, ran.volatile);
+            tell_run(out, ran, steps);
+            tell_reason(out, told);
         }
     }
 }
 
 // A session has at most 181 + 4096 bytes, so one more tells a longer input.
 fn main(rt: HostRuntime) {
-    let mut errors = rt.stderr();
-    let out = console::start(&rt, &mut errors, b"why");
-    let Output::Open = out else {
+    let mut out = Console::start(&rt, rt.stdout(), rt.stderr(), b"why");
+    if !out.is_open() {
         return;
-    };
+    }
     let mut input = [0u8; 4278];
-    let Input::Bytes(n) = console::read_input(&mut rt.stdin(), &mut errors, b"why", &mut input)
-    else {
+    let Ok(n) = out.read_input(&mut rt.stdin(), &mut input) else {
         return;
     };
-    answer(&mut rt.stdout(), out, &input[..n]).end(&mut errors, b"why");
+    answer(&mut out, &input[..n]);
+    out.end();
 }

@@ -1,6 +1,6 @@
-use Rattle.std.proofs.Common.{rules}
-use Rattle.console.proofs.Known.{appended_more}
+use Rattle.console.proofs.Known.{left_over}
 use Rattle.console.proofs.write_whole.Goals as goal
 
-pub loop-done-preserved : goal.loop-done-preserved
-loop-done-preserved g c = (search rules, appended_more _ _ _ _ _ _ c.loop-done.invariant.1 c.in-Ok.ensures.bytes)
+pub loop-rest-preserved : goal.loop-rest-preserved
+loop-rest-preserved g c =
+    left_over _ _ _ _ _ _ c.loop-rest.invariant.0 c.loop-rest.invariant.1 c.loop-rest.invariant.2 c.in-Ok.ensures.bound c.in-Ok.ensures.bytes

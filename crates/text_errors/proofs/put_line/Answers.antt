@@ -8,4 +8,4 @@ unfolding error_line words bytes_of
 returns c =
     then c.put_number-after_line.ensures
     (then c.put-before_words.ensures
-    (then c.put_words-after_words.ensures (then c.put_number-after_number.ensures c.put.ensures)))
+    (then (rw c.words_of.ensures at c.put-after_words.ensures) (then c.put_number-after_number.ensures c.put.ensures)))

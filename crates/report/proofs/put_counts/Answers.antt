@@ -1,6 +1,0 @@
-use Rattle.memory.proofs.Buffer.{then}
-use Rattle.report.proofs.put_counts.Goals as goal
-
-pub returns : goal.returns
-returns c =
-    then c.put_number-after_done.ensures (then c.put_line-after_given.ensures c.put_line.ensures)
