@@ -1,4 +1,4 @@
-use Rattle.memory.proofs.Buffer.{then}
+use Rattle.memory.proofs.Filled.{then_filled}
 use Rattle.decimal.proofs.Digits.{one_digit, more_digits}
 use Rattle.decimal.proofs.+put_decimal.Goals as goal
 
@@ -7,4 +7,4 @@ returns-then-x-lt10 t c = rw (one_digit c.args.x c.if-x-lt10.true) c.put_digit.e
 
 -- The front digits, and the last behind them.
 pub returns : goal.returns
-returns t c = rw (more_digits c.args.x c.if-x-lt10.false) (then c.put_decimal-next.ensures c.put_digit-2.ensures)
+returns t c = rw (more_digits c.args.x c.if-x-lt10.false) (then_filled c.put_decimal.ensures c.put_digit-2.ensures)
