@@ -10,6 +10,8 @@ ghost use Rattle.report.specs.Buffer.{Made};
 use decimal::places;
 use memory::lent::Filling;
 
+const NEWLINE: &[u8] = b"\n";
+
 // What the four lines tell of a run: that it did `done` of the steps given. Of the answers the first `done` are told, all of them if there
 // are fewer.
 #[derive(Clone, Copy)]
@@ -33,7 +35,7 @@ fn put_line(to: &mut Filling, word: &[u8], x: usize)
     ensures { Filled to.old (line word.now x) to.new }
 {
     put_number(to, word, x);
-    to.put(b"\n");
+    to.put(NEWLINE);
 }
 
 fn put_answers(to: &mut Filling, answers: &[u8])
@@ -42,7 +44,7 @@ fn put_answers(to: &mut Filling, answers: &[u8])
     for &a in answers {
         decimal::put_digit(to, a as usize);
     }
-    to.put(b"\n");
+    to.put(NEWLINE);
 }
 
 // `bad N`, a line: how many bytes it has, or none of them is written for want of room.
