@@ -3,7 +3,6 @@
 
 use console::Console;
 use std::io::Write;
-use text::Assembled;
 
 // A text has at most 65,536 bytes, so one more tells a longer input. 84 bytes hold every line.
 fn main(rt: HostRuntime) {
@@ -17,13 +16,14 @@ fn main(rt: HostRuntime) {
     };
     let mut session = [0u8; 4277];
     match text::assemble(&source[..n], &mut session) {
-        Assembled::Session(count) => {
+        Ok(count) => {
             out.say(&session[..count]);
             out.end();
         }
-        Assembled::Wrong { line, refusal } => {
+        Err(wrong) => {
             let mut said = [0u8; 84];
-            if let Some(length) = text_errors::error_line(line, refusal, &mut said) {
+            let fault = wrong.fault.number();
+            if let Some(length) = text_errors::error_line(wrong.line, fault, &mut said) {
                 let _ = out.errors.write_all(&said[..length]);
             }
         }

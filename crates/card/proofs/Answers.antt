@@ -1,13 +1,15 @@
 -- What the public calls answer, from what the steps inside have come to.
 use Prim.Native.Nat.{ℕ}
-use mathlib.Core.Path.{◌≡◌, refl, sym, ◌∙◌}
+use mathlib.Core.Path.{◌≡◌, refl, sym, ap, ◌∙◌}
 use mathlib.Core.Bool.{Bool, true, false, cond}
 use mathlib.Core.List.{List, [], ◌∷◌}
 use lib.Dec.{eqb}
 use lib.ListN.{length, get_or}
 use borrow.Author.Tests.{ne_eqb, eqb-false}
-use Rattle.rules.specs.declared.Answer.{Answer}
-use Rattle.rules.specs.declared.Answer.TheVariants.{Pin, Refused}
+use Rattle.std.specs.Prelude.{Result, Ok, Err}
+use Rattle.rules.specs.declared.Refusal.{Refusal}
+use Rattle.rules.specs.Numbers.{number}
+use Rattle.rules.proofs.Numbers.{some_number}
 use Rattle.rules.specs.Halves.{Card}
 use Rattle.rules.specs.Refusals.{refusal}
 use Rattle.rules.specs.Steps.{next, pin}
@@ -15,40 +17,34 @@ use Rattle.rules.specs.Card.{refusal_in, pin_in, added, ended, run, stepped, ans
 use Rattle.volatile.specs.Packed.{unpacked, Given, card_of}
 use Rattle.refusals.specs.Before.{given_refusal, given_run_refusal}
 use Rattle.volatile.specs.Inner.{Steps}
-use Rattle.card.specs.Calls.{step_leaves, step_answer, StepTold, run_leaves, run_answers, run_refused, RunAnswered}
+use Rattle.card.specs.Calls.{step_leaves, step_answer, StepAnswered, StepTold, run_leaves, run_answers, run_refused, RunAnswered}
 
 pub run_barred :
-    (g : Given) (steps answers : List ℕ) (k : ℕ) → given_run_refusal g (length steps) (length answers) ≡ k → (k ≡ 0 → ⊥) →
-    RunAnswered g steps answers g 0 k answers
+    (g : Given) (steps answers : List ℕ) (r : Refusal) → number r ≡ given_run_refusal g (length steps) (length answers) →
+    RunAnswered g steps answers g 0 (number r) answers
 unfolding run_leaves run_answers run_refused answers_in
-run_barred g steps answers k e h =
-    let no = ne_eqb k 0 h in
-    record { card = rw (e, no); done = rw (e, no); refusal = rw (e, no); pins = rw (e, no) }
-
--- The numbers tell the answer.
-pub refused_as : (x : Answer) → (refusal_in x ≡ 0 → ⊥) → Refused (refusal_in x) ≡ x
-unfolding refusal_in
-refused_as (Pin b) h = absurd (h refl)
-refused_as (Refused j) h = refl
+run_barred g steps answers r e =
+    let no = ne_eqb (number r) 0 (some_number r) in
+    record { card = rw (← e, no); done = rw (← e, no); refusal = rw (← e, no); pins = rw (← e, no) }
 
 module _ (g : Given) (n : ℕ) where
   pub step_barred :
-      (k : ℕ) → given_refusal g ≡ k → (k ≡ 0 → ⊥) →
-      StepTold g n g 1 k
-  unfolding step_leaves step_answer pin_in refusal_in
-  step_barred k e h =
-      let no = ne_eqb k 0 h in
-      record { card = rw (e, no); pin = rw (e, no); refusal = rw (e, no) }
+      (r : Refusal) → number r ≡ given_refusal g →
+      StepAnswered g n g (Err (number r))
+  unfolding step_leaves step_answer
+  step_barred r e =
+      let no = ne_eqb (number r) 0 (some_number r) in
+      record { card = rw (← e, no); answer = rw (← e, no) }
 
   -- A step of a sound card that is accepted.
   pub step_done :
       {p shown : ℕ} {left : Given} → given_refusal g ≡ 0 → Steps g p n left shown 0 →
-      StepTold g n left shown 0
-  unfolding step_leaves step_answer stepped answered pin_in refusal_in
+      StepAnswered g n left (Ok shown)
+  unfolding step_leaves step_answer stepped answered
   step_done z did =
       let none = sym did.refused in
       let to = did.accepted refl in
-      record { card = rw (z, none) to.0; pin = rw (z, none) to.1; refusal = rw (z, none) }
+      record { card = rw (z, none) to.0; answer = rw (z, none) (ap Ok to.1) }
 
   -- One step is a run of one.
   abbrev c : Card
@@ -65,37 +61,45 @@ module _ (g : Given) (n : ℕ) where
   unfolding given_run_refusal
   fits z = rw z
 
-  pub step_of_run :
-      {left : Given} {done j : ℕ} {told : List ℕ} → given_refusal g ≡ 0 → RunAnswered g (n ∷ []) (1 ∷ []) left done j told →
-      StepTold g n left (get_or told 0 0) j
-  unfolding step_leaves step_answer stepped answered pin_in refusal_in run_leaves run_answers run_refused answers_in
-  step_of_run {left} {done} {j} {told} z ran = go (eqb k 0) refl
-    where
-      go :
-          (t : Bool) → eqb k 0 ≡ t →
-          StepTold g n left (get_or told 0 0) j
-      go true e =
-          record {
-            card = ran.card ∙ rw (fits z, z, one_run true e, e);
-            pin = rw (ran.pins, fits z, z, one_run true e, e);
-            refusal = ran.refusal ∙ rw (fits z, z, one_run true e, e);
-          }
-      go false e =
-          record {
-            card = ran.card ∙ rw (fits z, z, one_run false e, e);
-            pin = rw (ran.pins, fits z, z, one_run false e, e);
-            refusal = ran.refusal ∙ rw (fits z, z, one_run false e, e);
-          }
+  module _ {left : Given} {done : ℕ} {told : List ℕ} (z : given_refusal g ≡ 0) where
+    pub step_of_run :
+        RunAnswered g (n ∷ []) (1 ∷ []) left done 0 told →
+        StepAnswered g n left (Ok (get_or told 0 0))
+    unfolding step_leaves step_answer stepped answered run_leaves run_answers run_refused answers_in
+    step_of_run ran = go (eqb k 0) refl
+      where
+        go :
+            (t : Bool) → eqb k 0 ≡ t →
+            StepAnswered g n left (Ok (get_or told 0 0))
+        go true e =
+            record {
+              card = ran.card ∙ rw (fits z, z, one_run true e, e);
+              answer = rw (ran.pins, fits z, z, one_run true e, e);
+            }
+        go false e =
+            let over : 0 ≡ k = ran.refusal ∙ rw (fits z, one_run false e) in
+            absurd (eqb-false k 0 e (sym over))
 
-  -- None is a refusal by 0.
-  pub pinned_as : refusal_in (step_answer g n) ≡ 0 → Pin (pin_in (step_answer g n)) ≡ step_answer g n
-  unfolding step_answer answered refusal_in pin_in
-  pinned_as = go (eqb (given_refusal g) 0) (eqb k 0) refl refl
-    where
-      x : (t u : Bool) → Answer
-      x t u = cond t (cond u (Pin (pin (next c n))) (Refused k)) (Refused (given_refusal g))
+    pub step_of_barred_run :
+        (r : Refusal) → RunAnswered g (n ∷ []) (1 ∷ []) left done (number r) told →
+        StepAnswered g n left (Err (number r))
+    unfolding step_leaves step_answer stepped answered run_leaves run_answers run_refused answers_in
+    step_of_barred_run r ran = go (eqb k 0) refl
+      where
+        go :
+            (t : Bool) → eqb k 0 ≡ t →
+            StepAnswered g n left (Err (number r))
+        go true e =
+            let none : number r ≡ 0 = ran.refusal ∙ rw (fits z, one_run true e) in
+            absurd (some_number r none)
+        go false e =
+            record {
+              card = ran.card ∙ rw (fits z, z, one_run false e, e);
+              answer = rw (ran.refusal, fits z, z, one_run false e, e);
+            }
 
-      go : (t u : Bool) → eqb (given_refusal g) 0 ≡ t → eqb k 0 ≡ u → refusal_in (x t u) ≡ 0 → Pin (pin_in (x t u)) ≡ x t u
-      go true true e f z = refl
-      go true false e f z = absurd (eqb-false k 0 f z)
-      go false u e f z = absurd (eqb-false (given_refusal g) 0 e z)
+-- An answer in plain numbers.
+pub told_as :
+    {g left : Given} {n : ℕ} {x : Result ℕ ℕ} → StepAnswered g n left x →
+    StepTold g n left (pin_in x) (refusal_in x)
+told_as a = record { card = a.card; pin = ap pin_in a.answer; refusal = ap refusal_in a.answer }

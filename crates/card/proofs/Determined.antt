@@ -3,14 +3,18 @@ use Prim.Native.Nat.{ℕ}
 use mathlib.Core.Path.{◌≡◌}
 use mathlib.Core.List.{List}
 use Rattle.memory.proofs.Determined.{determined}
-use Rattle.rules.specs.declared.Answer.{Answer}
+use Rattle.rules.specs.declared.Refusal.{Refusal}
+use Rattle.rules.specs.Numbers.{numbered}
+use Rattle.rules.proofs.Numbers.{same_numbered}
+use Rattle.std.specs.Prelude.{Result}
 use Rattle.volatile.specs.Packed.{Given}
 use Rattle.card.specs.Calls.{StepAnswered, StepTold, RunAnswered}
 
 module _ (g left left' : Given) where
   pub step_determined :
-      (n : ℕ) (x x' : Answer) → StepAnswered g n left x → StepAnswered g n left' x' → (left ≡ left') × (x ≡ x')
-  step_determined n x x' p q = (determined p.card q.card, determined p.answer q.answer)
+      (n : ℕ) (x x' : Result ℕ Refusal) → StepAnswered g n left (numbered x) → StepAnswered g n left' (numbered x') →
+      (left ≡ left') × (x ≡ x')
+  step_determined n x x' p q = (determined p.card q.card, same_numbered x x' (determined p.answer q.answer))
 
   pub told_determined :
       (n shown shown' k k' : ℕ) → StepTold g n left shown k → StepTold g n left' shown' k' → (left ≡ left') × (shown ≡ shown') × (k ≡ k')

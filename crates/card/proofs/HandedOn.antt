@@ -16,6 +16,6 @@ module _ (g : Given) (n : ℕ) where
       arrived g.memory g.fuses (following g.half.address)
       (unlatched n (compared_here g.memory (level1 (held g.fuses w)) w) w)
 
-  pub clocks : moved (packed clocked_half) (pin_at g (packed clocked_half)) 0 ≡ moved_to (clocked n (card_of g))
+  pub clocks : moved (packed clocked_half) (pin_at g (packed clocked_half)) ≡ moved_to (clocked n (card_of g))
   unfolding clocked compared_here unpacked
   clocks = rw (pin_handed_back (clocked n (card_of g)))

@@ -143,9 +143,11 @@ module _ {start g : Given} {steps answers₀ answers : List ℕ} {p i : ℕ} (go
 
   pub ends :
       length steps ≤ i →
-      RunAnswered start steps answers₀ g i 0 answers
+      RunAnswered start steps answers₀ g (length steps) 0 answers
   unfolding run
-  ends h = concludes 0 (rw (drop_of_length-le steps h))
+  ends h =
+      let over : i ≡ length steps = omega (arith, h, going.within) in
+      rw (← over) (concludes 0 (rw (drop_of_length-le steps h)))
 
   module _ {left : Given} {shown k : ℕ} (h : i < length steps) (steps-to : Steps g p (get_or steps i 0) left shown k) where
     pub stops :

@@ -12,10 +12,10 @@ use Rattle.rules.specs.Steps.{follows, pin}
 use Rattle.volatile.specs.declared.Volatile.{Volatile}
 use Rattle.volatile.specs.Packed.{packed, unpacked, Given, card_of, with_half}
 use Rattle.refusals.specs.Before.{given_refusal}
-use Rattle.card.specs.declared.quick.Quick.TheVariants.{To}
+use Rattle.std.specs.Prelude.{Some, Ok}
 use Rattle.volatile.specs.Inner.{Ready}
 use Rattle.card.specs.Moves.{QuickTo}
-use Rattle.card.specs.Calls.{StepTold}
+use Rattle.card.specs.Calls.{StepAnswered}
 use Rattle.edge_laws.proofs.Turned.{Turned}
 use Rattle.edge_laws.proofs.LineMasks.{vcc_clk, high_low}
 use Rattle.edge_laws.proofs.ByLine.{pin_at, Goes, turned, idle, reads, pgm_goes, fus_goes, rst_follows, rst_falls_lem}
@@ -27,11 +27,11 @@ module _ (v : Volatile) (n : ℕ) where
   pub quick_by :
       (x : Line) (u : Halves.Volatile) → bit_xor v.lines n ≡ mask x →
       ((g : Given) (p : ℕ) (ready : Ready (with_half g v) p) → Turned x v.lines n → Goes ready n u) →
-      QuickTo v n (To (packed u))
+      QuickTo v n (Some (packed u))
   unfolding QuickTo
   quick_by x u e goes g p ready = reads ready n (goes g p ready (turned ready n x e))
 
-  pub pgm_quick : bit_xor v.lines n ≡ mask PGM → (bit_and n 13 ≡ 13 → ⊥) → QuickTo v n (To (packed (follows n (unpacked v))))
+  pub pgm_quick : bit_xor v.lines n ≡ mask PGM → (bit_and n 13 ≡ 13 → ⊥) → QuickTo v n (Some (packed (follows n (unpacked v))))
   pgm_quick e h = quick_by PGM (follows n (unpacked v)) e (λ g p ready t. pgm_goes ready n t h)
 
   -- With CLK low neither FUS nor RST is refused.
@@ -39,20 +39,20 @@ module _ (v : Volatile) (n : ℕ) where
     clk : high CLK n ≡ false
     clk = (high_low (high VCC n) (high CLK n) (sym (vcc_clk n) ∙ eq-eqb (bit_and n 5) 1 low)).1
 
-    pub fus_quick : bit_xor v.lines n ≡ mask FUS → QuickTo v n (To (packed (follows n (unpacked v))))
+    pub fus_quick : bit_xor v.lines n ≡ mask FUS → QuickTo v n (Some (packed (follows n (unpacked v))))
     unfolding place
     fus_quick e =
         quick_by FUS (follows n (unpacked v)) e
         (λ g p ready t. fus_goes ready n t (idle ready (sym (t.others CLK refl) ∙ clk)))
 
     module _ (e : bit_xor v.lines n ≡ mask RST) where
-      pub rst_rises_quick : (bit_and n 3 ≡ 1 → ⊥) → QuickTo v n (To (packed (follows n (unpacked v))))
+      pub rst_rises_quick : (bit_and n 3 ≡ 1 → ⊥) → QuickTo v n (Some (packed (follows n (unpacked v))))
       unfolding place
       rst_rises_quick h =
           quick_by RST (follows n (unpacked v)) e
           (λ g p ready t. rst_follows ready n t (idle ready (sym (t.others CLK refl) ∙ clk)) h)
 
-      pub rst_falls_quick : bit_and n 3 ≡ 1 → QuickTo v n (To (packed (arrived [] 0 0 (follows n (unpacked v)))))
+      pub rst_falls_quick : bit_and n 3 ≡ 1 → QuickTo v n (Some (packed (arrived [] 0 0 (follows n (unpacked v)))))
       unfolding place
       rst_falls_quick h =
           quick_by RST (arrived [] 0 0 (follows n (unpacked v))) e
@@ -60,7 +60,7 @@ module _ (v : Volatile) (n : ℕ) where
 
 -- What a single step answers.
 pub quick_told :
-    (g : Given) (n : ℕ) (after : Volatile) → given_refusal g ≡ 0 → QuickTo g.half n (To after) →
-    StepTold g n (with_half g after) (pin_at g after) 0
+    (g : Given) (n : ℕ) (after : Volatile) → given_refusal g ≡ 0 → QuickTo g.half n (Some after) →
+    StepAnswered g n (with_half g after) (Ok (pin_at g after))
 unfolding QuickTo
 quick_told g n after z to = step_done g n z (to g (pin (card_of g)) (ready_at g (pin (card_of g)) z refl))

@@ -1,7 +1,5 @@
 -- What each call of the card answers and leaves, for every input.
-use Rattle.std.specs.Prelude.{ℕ, ◌≡◌, cond, List, [], eqb, length}
-use Rattle.rules.specs.declared.Answer.{Answer}
-use Rattle.rules.specs.declared.Answer.TheVariants.{Refused}
+use Rattle.std.specs.Prelude.{ℕ, ◌≡◌, cond, List, [], eqb, length, Result, Err}
 use Rattle.rules.specs.Card.{refusal_in, pin_in, stepped, answered, run, answers_in}
 use Rattle.volatile.specs.Packed.{packed, Given, card_of, handed_back}
 use Rattle.refusals.specs.Before.{given_refusal, given_run_refusal}
@@ -11,9 +9,9 @@ unfoldable pub step_leaves : Given → ℕ → Given
 unfolding packed given_refusal
 step_leaves g n = cond (eqb (given_refusal g) 0) (handed_back (stepped (card_of g) n)) g
 
-unfoldable pub step_answer : Given → ℕ → Answer
+unfoldable pub step_answer : Given → ℕ → Result ℕ ℕ
 unfolding given_refusal
-step_answer g n = cond (eqb (given_refusal g) 0) (answered (card_of g) n) (Refused (given_refusal g))
+step_answer g n = cond (eqb (given_refusal g) 0) (answered (card_of g) n) (Err (given_refusal g))
 
 -- The card that a run leaves, its answers, and its refusal, 0 if none.
 unfoldable pub run_leaves : Given → List ℕ → ℕ → Given
@@ -31,7 +29,7 @@ run_refused g steps room =
     cond (eqb k 0) (run (card_of g) steps).refused k
 
 -- A step of whatever comes in.
-pub record StepAnswered (g : Given) (n : ℕ) (left : Given) (told : Answer) : Type 0 where
+pub record StepAnswered (g : Given) (n : ℕ) (left : Given) (told : Result ℕ ℕ) : Type 0 where
   pub card : left ≡ step_leaves g n
   pub answer : told ≡ step_answer g n
 

@@ -3,34 +3,32 @@
 --
 -- A half by its levels, its address and its flags. Levels are sums as in 01: VCC 1, RST 2, CLK 4, PGM 8, I/O 16, FUS 32; so are flags:
 -- SV 1, P1 2, R1 4, programming 8, latch 16, E1 32, match 64; no card has 128. Of `sample` bit 0 is 0, bits 1, 96 and 1240 are 1.
-use Rattle.std.specs.Prelude.{ℕ, List, [], ◌∷◌, take, replicate, set}
-use Rattle.rules.specs.declared.Answer.{Answer}
-use Rattle.rules.specs.declared.Answer.TheVariants.{Pin, Refused}
+use Rattle.std.specs.Prelude.{ℕ, List, [], ◌∷◌, take, replicate, set, Result, Ok, Err}
 use Rattle.rules.specs.CaseForms.{zero, one, released, no_answer, sample}
 use Rattle.volatile.specs.Packed.{Given, given}
 use Rattle.volatile.specs.Cases.{half}
 use Rattle.card.specs.Calls.{StepAnswered, StepTold, RunAnswered}
 
 -- Of the first card the step makes the second and gets this answer.
-abbrev pub StepsTo : Given → ℕ → Given → Answer → Type 0
+abbrev pub StepsTo : Given → ℕ → Given → Result ℕ ℕ → Type 0
 StepsTo c n d x = StepAnswered c n d x
 
 -- "A refused step changes nothing and gives back the state as it came, with the number, marked as a refusal, in place of a pin answer".
 abbrev pub StepRefused : Given → ℕ → ℕ → Type 0
-StepRefused c n k = StepsTo c n c (Refused k)
+StepRefused c n k = StepsTo c n c (Err k)
 
 abbrev pub StepsAnswer : Type 0
 StepsAnswer =
     -- CLK rises at 0 and at 1, RST rises, FUS falls.
-    StepsTo (given sample 5 (half 17 0 0)) 21 (given sample 5 (half 21 0 16)) (Pin zero) ×
-    StepsTo (given sample 5 (half 17 1 0)) 21 (given sample 5 (half 21 1 16)) (Pin one) ×
-    StepsTo (given sample 5 (half 17 0 0)) 19 (given sample 5 (half 19 0 0)) (Pin released) ×
-    StepsTo (given sample 5 (half 49 1240 103)) 17 (given sample 5 (half 17 1240 103)) (Pin one) ×
+    StepsTo (given sample 5 (half 17 0 0)) 21 (given sample 5 (half 21 0 16)) (Ok zero) ×
+    StepsTo (given sample 5 (half 17 1 0)) 21 (given sample 5 (half 21 1 16)) (Ok one) ×
+    StepsTo (given sample 5 (half 17 0 0)) 19 (given sample 5 (half 19 0 0)) (Ok released) ×
+    StepsTo (given sample 5 (half 49 1240 103)) 17 (given sample 5 (half 17 1240 103)) (Ok one) ×
     -- "a write that turns a 1 into 0 at 96 to 103 while match holds sets SV", and one that blows ISS.
-    StepsTo (given sample 5 (half 21 96 72)) 17 (given (set sample 12 127) 5 (half 17 96 65)) (Pin zero) ×
-    StepsTo (given sample 7 (half 23 1504 9)) 19 (given sample 3 (half 19 1504 1)) (Pin released) ×
+    StepsTo (given sample 5 (half 21 96 72)) 17 (given (set sample 12 127) 5 (half 17 96 65)) (Ok zero) ×
+    StepsTo (given sample 7 (half 23 1504 9)) 19 (given sample 3 (half 19 1504 1)) (Ok released) ×
     -- An erase in IZ at level 1, which the fuses make.
-    StepsTo (given (set sample 2 0) 7 (half 53 16 25)) 49 (given sample 7 (half 49 16 1)) (Pin one) ×
+    StepsTo (given (set sample 2 0) 7 (half 53 16 25)) 49 (given sample 7 (half 49 16 1)) (Ok one) ×
     -- 1, 2 and 3.
     StepRefused (given sample 5 (half 17 0 0)) 64 1 ×
     StepRefused (given sample 5 (half 17 0 7)) 22 2 ×

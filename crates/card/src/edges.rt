@@ -1,5 +1,5 @@
 // What each line does when it rises or falls, where image and fuses stay: all but CLK and VCC while programming is under way.
-ghost use Rattle.std.specs.Prelude.{◌≡◌, false, ◌≤◌};
+ghost use Rattle.std.specs.Prelude.{◌≡◌, false, ◌≤◌, Ok};
 ghost use Rattle.std.specs.Int.Bits.{bit_xor};
 ghost use Rattle.memory.specs.Image.{digit};
 ghost use Rattle.rules.specs.Match.{following};
@@ -8,9 +8,10 @@ ghost use Rattle.volatile.specs.Packed.{given, card_of};
 ghost use Rattle.volatile.specs.Inner.{Ready};
 ghost use Rattle.card.specs.Moves.{Moves, moved_to};
 
+use crate::masks;
 use crate::moved::Moved;
-use crate::{masks, moved};
 use memory::is_set;
+use rules::Refusal;
 use volatile::Volatile;
 
 // The address goes up by one, 1519 going to 0.
@@ -33,7 +34,7 @@ pub(crate) fn clock_counts(v: Volatile, image: &[u8], fuses: u8, n: u32) -> Move
     let next = v
         .unlatched(n, matched)
         .arrives(image, fuses, following(v.address));
-    moved::read(next, image, fuses)
+    Moved::read(next, image, fuses)
 }
 
 // CLK falls and no programming is under way.
@@ -42,25 +43,31 @@ pub(crate) fn clock_falls(v: Volatile, image: &[u8], fuses: u8, pin: u8, n: u32)
     requires idle { digit 3 v.flags ≡ false }
     requires line { bit_xor v.lines n ≡ 4 }
     requires low { digit 2 n ≡ false }
-    ensures { Moves (given image.now fuses v) pin n result }
+    ensures { Moves (given image.now fuses v) pin n (Ok result) }
 {
     let a = v.address + 1;
     if n & masks::VCC_RST_PGM == 1 {
         let shows = shown::shows(a, v.flags);
         if shows != shown::APART {
             let bit = memory::read_bit(image, a as usize);
-            return moved::known(
-                v.goes_on(n, a),
-                volatile::pin_value(shows == shown::BIT, bit),
-            );
+            return Moved {
+                volatile: v.goes_on(n, a),
+                pin: volatile::pin_value(shows == shown::BIT, bit),
+            };
         }
     }
     if !is_set(n, volatile::VCC) {
-        return moved::known(v.follows(n), pin);
+        return Moved {
+            volatile: v.follows(n),
+            pin,
+        };
     }
     if is_set(n, volatile::RST) {
         let matched = is_set(v.flags, volatile::MATCH);
-        return moved::known(v.unlatched(n, matched), pin);
+        return Moved {
+            volatile: v.unlatched(n, matched),
+            pin,
+        };
     }
     clock_counts(v, image, fuses, n)
 }
@@ -70,76 +77,97 @@ pub(crate) fn clock(v: Volatile, image: &[u8], fuses: u8, pin: u8, n: u32) -> Mo
     requires ready { Ready (given image.now fuses v) pin }
     requires idle { digit 3 v.flags ≡ false }
     requires line { bit_xor v.lines n ≡ 4 }
-    ensures { Moves (given image.now fuses v) pin n result }
+    ensures { Moves (given image.now fuses v) pin n (Ok result) }
 {
     if !is_set(n, volatile::CLK) {
         return clock_falls(v, image, fuses, pin, n);
     }
     if is_set(n, volatile::VCC) {
-        return moved::known(v.clock_rises(n), pin);
+        return Moved {
+            volatile: v.clock_rises(n),
+            pin,
+        };
     }
-    moved::known(v.follows(n), pin)
+    Moved {
+        volatile: v.follows(n),
+        pin,
+    }
 }
 
 // PGM rises or falls.
-pub(crate) fn program(v: Volatile, image: &[u8], fuses: u8, pin: u8, n: u32) -> Moved
+pub(crate) fn program(
+    v: Volatile,
+    image: &[u8],
+    fuses: u8,
+    pin: u8,
+    n: u32,
+) -> Result<Moved, Refusal>
     requires ready { Ready (given image.now fuses v) pin }
     requires line { bit_xor v.lines n ≡ 8 }
     ensures { Moves (given image.now fuses v) pin n result }
 {
     if n & masks::VCC_CLK_PGM == masks::VCC_CLK_PGM {
-        return moved::refused(v, pin, 6);
+        return Err(Refusal::PGMRisesWithCLKHigh);
     }
-    moved::read(v.follows(n), image, fuses)
+    Ok(Moved::read(v.follows(n), image, fuses))
 }
 
 // RST rises or falls.
-pub(crate) fn reset(v: Volatile, image: &[u8], fuses: u8, pin: u8, n: u32) -> Moved
+pub(crate) fn reset(v: Volatile, image: &[u8], fuses: u8, pin: u8, n: u32) -> Result<Moved, Refusal>
     requires ready { Ready (given image.now fuses v) pin }
     requires line { bit_xor v.lines n ≡ 2 }
     ensures { Moves (given image.now fuses v) pin n result }
 {
     if is_set(v.flags, volatile::PROGRAMMING) {
-        return moved::refused(v, pin, 3);
+        return Err(Refusal::RSTOrFUSInProgramming);
     }
     if n & masks::VCC_RST != 1 {
-        return moved::read(v.follows(n), image, fuses);
+        return Ok(Moved::read(v.follows(n), image, fuses));
     }
     if is_set(n, volatile::CLK) {
-        return moved::refused(v, pin, 5);
+        return Err(Refusal::RSTFallsWithCLKHigh);
     }
-    moved::read(v.reset_falls(n), image, fuses)
+    Ok(Moved::read(v.reset_falls(n), image, fuses))
 }
 
 // FUS rises or falls.
-pub(crate) fn fuse(v: Volatile, image: &[u8], fuses: u8, pin: u8, n: u32) -> Moved
+pub(crate) fn fuse(v: Volatile, image: &[u8], fuses: u8, pin: u8, n: u32) -> Result<Moved, Refusal>
     requires ready { Ready (given image.now fuses v) pin }
     requires line { bit_xor v.lines n ≡ 32 }
     ensures { Moves (given image.now fuses v) pin n result }
 {
     if is_set(v.flags, volatile::PROGRAMMING) {
-        return moved::refused(v, pin, 3);
+        return Err(Refusal::RSTOrFUSInProgramming);
     }
-    moved::read(v.follows(n), image, fuses)
+    Ok(Moved::read(v.follows(n), image, fuses))
 }
 
 // VCC rises or falls.
-pub(crate) fn power(v: Volatile, image: &[u8], fuses: u8, pin: u8, n: u32) -> Moved
+pub(crate) fn power(v: Volatile, image: &[u8], fuses: u8, pin: u8, n: u32) -> Result<Moved, Refusal>
     requires ready { Ready (given image.now fuses v) pin }
     requires line { bit_xor v.lines n ≡ 1 }
     ensures { Moves (given image.now fuses v) pin n result }
 {
     if !is_set(n, volatile::VCC) {
-        return moved::known(v.power_falls(n), volatile::RELEASED);
+        return Ok(Moved {
+            volatile: v.power_falls(n),
+            pin: volatile::RELEASED,
+        });
     }
     if n & masks::CLK_PGM != 0 {
-        return moved::refused(v, pin, 7);
+        return Err(Refusal::VCCRisesWithCLKOrPGMHigh);
     }
-    moved::read(v.follows(n), image, fuses)
+    Ok(Moved::read(v.follows(n), image, fuses))
 }
 
 // A step that turns over none of CLK, I/O and PGM.
-pub(crate) fn other_line(v: Volatile, image: &[u8], fuses: u8, pin: u8, n: u32) -> Moved
+pub(crate) fn other_line(
+    v: Volatile,
+    image: &[u8],
+    fuses: u8,
+    pin: u8,
+    n: u32,
+) -> Result<Moved, Refusal>
     requires ready { Ready (given image.now fuses v) pin }
     requires clock { bit_xor v.lines n ≡ 4 → ⊥ }
     requires io { bit_xor v.lines n ≡ 16 → ⊥ }
@@ -147,11 +175,11 @@ pub(crate) fn other_line(v: Volatile, image: &[u8], fuses: u8, pin: u8, n: u32) 
     ensures { Moves (given image.now fuses v) pin n result }
 {
     if 63 < n {
-        return moved::refused(v, pin, 1);
+        return Err(Refusal::StepOver63);
     }
     let d = v.lines ^ n;
     if d == 0 {
-        return moved::known(v, pin);
+        return Ok(Moved { volatile: v, pin });
     }
     if d == 2 {
         return reset(v, image, fuses, pin, n);
@@ -162,18 +190,27 @@ pub(crate) fn other_line(v: Volatile, image: &[u8], fuses: u8, pin: u8, n: u32) 
     if d == 1 {
         return power(v, image, fuses, pin, n);
     }
-    moved::refused(v, pin, 2)
+    Err(Refusal::ManyLines)
 }
 
 // A step that does not turn over CLK.
-pub(crate) fn other_than_clock(v: Volatile, image: &[u8], fuses: u8, pin: u8, n: u32) -> Moved
+pub(crate) fn other_than_clock(
+    v: Volatile,
+    image: &[u8],
+    fuses: u8,
+    pin: u8,
+    n: u32,
+) -> Result<Moved, Refusal>
     requires ready { Ready (given image.now fuses v) pin }
     requires clock { bit_xor v.lines n ≡ 4 → ⊥ }
     ensures { Moves (given image.now fuses v) pin n result }
 {
     let d = v.lines ^ n;
     if d == 16 {
-        return moved::known(v.follows(n), pin);
+        return Ok(Moved {
+            volatile: v.follows(n),
+            pin,
+        });
     }
     if d == 8 {
         return program(v, image, fuses, pin, n);

@@ -7,31 +7,39 @@ ghost use Rattle.volatile.specs.Packed.{packed, given};
 ghost use Rattle.volatile.specs.Inner.{Ready};
 ghost use Rattle.card.specs.Moves.{Leaves, left_by, moved};
 
-use crate::moved;
-use crate::moved::Left;
+use crate::moved::{Left, Moved};
 use memory::is_set;
+use rules::Refusal;
 use volatile::Volatile;
 
 // CLK falls.
-pub(crate) fn clock(v: Volatile, image: &mut [u8], fuses: u8, pin: u8, n: u32) -> Left
+pub(crate) fn clock(
+    v: Volatile,
+    image: &mut [u8],
+    fuses: u8,
+    pin: u8,
+    n: u32,
+) -> Result<Left, Refusal>
     requires ready { Ready (given image.old fuses v) pin }
     requires programming { digit 3 v.flags ≡ true }
     requires line { bit_xor v.lines n ≡ 4 }
     ensures { Leaves (given image.old fuses v) pin n result image.new }
 {
     if is_set(n, volatile::PGM) {
-        return moved::with_fuses(moved::refused(v, pin, 4), fuses);
+        return Err(Refusal::CLKFallsWithPGMHigh);
     }
     let done = programming::clock_falls(v, image, fuses, n);
-    let after = done.volatile;
-    moved::with_fuses(moved::read(after, image, done.fuses), done.fuses)
+    Ok(Moved::read(done.volatile, image, done.fuses).with_fuses(done.fuses))
 }
 
 // VCC falls.
 pub(crate) fn power(v: Volatile, fuses: u8, n: u32) -> Left
-    ensures { result ≡ left_by (moved (packed (off n)) 1 0) fuses }
+    ensures { result ≡ left_by (moved (packed (off n)) 1) fuses }
 {
     let done = programming::power_falls(v, fuses, n);
-    let after = done.volatile;
-    moved::with_fuses(moved::known(after, volatile::RELEASED), done.fuses)
+    Left {
+        fuses: done.fuses,
+        volatile: done.volatile,
+        pin: volatile::RELEASED,
+    }
 }

@@ -4,12 +4,19 @@ ghost use Rattle.volatile.specs.Inner.{Ready};
 ghost use Rattle.card.specs.Moves.{Leaves};
 
 use crate::moved::Left;
-use crate::{edges, in_programming, moved};
+use crate::{edges, in_programming};
 use memory::is_set;
+use rules::Refusal;
 use volatile::Volatile;
 
 // While programming is under way image and fuses may change, else they stay.
-pub(crate) fn step(v: Volatile, image: &mut [u8], fuses: u8, pin: u8, n: u32) -> Left
+pub(crate) fn step(
+    v: Volatile,
+    image: &mut [u8],
+    fuses: u8,
+    pin: u8,
+    n: u32,
+) -> Result<Left, Refusal>
     requires { Ready (given image.old fuses v) pin }
     ensures { Leaves (given image.old fuses v) pin n result image.new }
 {
@@ -18,10 +25,10 @@ pub(crate) fn step(v: Volatile, image: &mut [u8], fuses: u8, pin: u8, n: u32) ->
         if is_set(v.flags, volatile::PROGRAMMING) {
             return in_programming::clock(v, image, fuses, pin, n);
         }
-        return moved::with_fuses(edges::clock(v, image, fuses, pin, n), fuses);
+        return Ok(edges::clock(v, image, fuses, pin, n).with_fuses(fuses));
     }
     if (d == 1) & is_set(v.flags, volatile::PROGRAMMING) {
-        return in_programming::power(v, fuses, n);
+        return Ok(in_programming::power(v, fuses, n));
     }
-    moved::with_fuses(edges::other_than_clock(v, image, fuses, pin, n), fuses)
+    Ok(edges::other_than_clock(v, image, fuses, pin, n)?.with_fuses(fuses))
 }

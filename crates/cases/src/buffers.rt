@@ -40,7 +40,7 @@ fn run(t: &mut Table, steps: &[u8], answers: &mut [u8], expected: u64) {
         b"  steps ",
         steps.len() as u64,
         expected,
-        ran.refusal as u64,
+        rules::number_if_any(ran.refusal) as u64,
     )
 }
 

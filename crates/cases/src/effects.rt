@@ -29,7 +29,7 @@ fn run(t: &mut Table, fill: u8, v: Volatile, steps: &[u8], after: Volatile, i: u
     let mut answers = [0u8; 8];
     let ran = card::run(&mut memory, 7, v, steps, &mut answers);
     t.from(v);
-    t.numbers(0, ran.refusal as u64);
+    t.numbers(0, rules::number_if_any(ran.refusal) as u64);
     t.half(after, ran.volatile);
     t.row(b"  byte ", i as u64, byte, memory[i % 174] as u64)
 }

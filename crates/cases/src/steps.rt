@@ -1,13 +1,10 @@
 // The rows of a step.
 use crate::table::Table;
-use rules::Answer;
+use rules::Refusal;
 use volatile::Volatile;
 
-pub(crate) fn refusal(answer: Answer) -> u64 {
-    match answer {
-        Answer::Pin(_) => 0,
-        Answer::Refused(k) => k as u64,
-    }
+pub(crate) fn refusal(answer: Result<u8, Refusal>) -> u64 {
+    rules::number_if_any(answer.err()) as u64
 }
 
 // Lines, address and flags; the step; the number of its refusal.

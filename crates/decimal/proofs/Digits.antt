@@ -1,9 +1,9 @@
 -- A number's digits: one, or those of its tenth and one more; and how many there are.
-use Prim.Native.Nat.{ℕ, zero, suc, ◌+◌, ◌/◌, ◌%◌, ◌^◌, ◌≤◌, ◌<◌}
+use Prim.Native.Nat.{ℕ, zero, suc, ◌+◌, ◌*◌, ◌/◌, ◌%◌, ◌^◌, ◌≤◌, ◌<◌, max}
 use native.Mathlib.Nat.{pow-suc}
 use native.Mathlib.Omega.{arith}
 use native.Mathlib.Decide.{dec_lt}
-use mathlib.Core.Path.{◌≡◌, refl}
+use mathlib.Core.Path.{◌≡◌, refl, ap}
 use mathlib.Core.List.{[], ◌∷◌, ◌++◌}
 use lib.ListN.{length, length-append}
 use borrow.Author.Tests.{lt-ltb, le-ltb}
@@ -54,6 +54,27 @@ few_digits (suc k) x h = go (dec_lt x 10) (few_digits k (x / 10) (omega (arith, 
     go : Dec (x < 10) → length (decimal (x / 10)) ≤ suc k → length (decimal x) ≤ suc (suc k)
     go (yes l) tenth = rw (one_digit x l) (omega arith)
     go (no l) tenth = omega (arith, length_more x (omega arith))
+
+power : (k : ℕ) → 1 ≤ 10 ^ k
+power zero = omega arith
+power (suc k) = rw (pow-suc 10 k) (omega (arith, power k))
+
+-- And one of at least that more than k.
+many_digits : (k x : ℕ) → 10 ^ k ≤ x → k < length (decimal x)
+many_digits zero x h = some_digit x
+many_digits (suc k) x h =
+    let scaled : 10 ^ k * 10 ≤ x = rw (pow-suc 10 k) at h in
+    let large : 10 ≤ x = omega (arith, power k) in
+    omega (arith, length_more x large, many_digits k (x / 10) (omega arith))
+
+-- So 0 has the digits of 1, and any other number one more than the power of ten in it.
+pub by_powers : (k x : ℕ) → 10 ^ k ≤ max x 1 → max x 1 < 10 * 10 ^ k → length (decimal x) ≡ k + 1
+by_powers k zero least most =
+    let none : length (decimal 0) ≡ 1 = ap length (one_digit 0 (omega arith)) in
+    let one : length (decimal 1) ≡ 1 = ap length (one_digit 1 (omega arith)) in
+    omega (arith, many_digits k 1 least)
+by_powers k (suc n) least most =
+    omega (arith, few_digits k (suc n) (rw (pow-suc 10 k) (omega arith)), many_digits k (suc n) (omega arith))
 
 pub at_most_twenty : (x : ℕ) → x < 2 ^ 64 → length (decimal x) ≤ 20
 at_most_twenty x h = few_digits 19 x (omega arith)

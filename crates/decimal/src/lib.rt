@@ -7,26 +7,23 @@ ghost use Rattle.decimal.specs.Decimal.{digit, decimal};
 
 use memory::lent::Filling;
 
-// How many digits x has.
+// How many digits x has: one for 0 too.
+#[tactic(auto, using(crate::proofs::Digits::by_powers))]
 pub fn places(x: usize) -> usize
     ensures { (result ≡ length (decimal x)) × (result ≤ 20) }
 {
-    let mut n = 1;
-    let mut rest = x;
-    while 10 <= rest {
-        rest = rest / 10;
-        n += 1;
-    }
-    n
+    x.max(1).ilog10() as usize + 1
 }
 
 // The last decimal digit of x.
+#[tactic(auto, unfolding(crate::specs::Decimal::digit))]
 pub fn put_digit(to: &mut Filling, x: usize)
     ensures { Filled to.old (digit x ∷ []) to.new }
 {
-    to.put(&[48 + (x % 10) as u8]);
+    to.put(&[b'0' + (x % 10) as u8]);
 }
 
+#[tactic(auto, using(crate::proofs::Digits::one_digit))]
 pub fn put_decimal(to: &mut Filling, x: usize)
     ensures { Filled to.old (decimal x) to.new }
 {

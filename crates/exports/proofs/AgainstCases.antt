@@ -8,11 +8,12 @@ use Rattle.looks.specs.Reasons.{reason_answer}
 use Rattle.maker.specs.Act.{made, in_buffer}
 use Rattle.rules.specs.Numbers.{refused}
 use Rattle.file.specs.Opening.{card_answer, session_answer, in_memory, handed_steps}
-use Rattle.exports.specs.Rendered.{flag_bytes, reason_bytes, made_of, card_file_of, session_of}
+use Rattle.exports.specs.Rendered.{of_step, flag_bytes, reason_bytes, made_of, card_file_of, session_of}
 use Rattle.exports.specs.Cases.{StepsTold, FlagsTold, ReasonsTold, VersionTold, ActsTold, FilesTold}
 
 pub steps_told : StepsTold
-steps_told = (refl, refl)
+unfolding of_step
+steps_told = (refl, refl, refl)
 
 pub flags_told : FlagsTold
 unfolding the_card flags_of flag_bytes

@@ -2,7 +2,8 @@
 -- `proofs.AgainstCases` computes them from the definitions.
 --
 -- A half by its levels, its address and its flags: SV 1, P1 2, R1 4, programming 8, latch 16, E1 32, match 64.
-use Rattle.std.specs.Prelude.{ℕ, ◌+◌, ◌*◌, ◌≡◌, true, false, List, [], ◌∷◌, ◌++◌, take, replicate}
+use Rattle.std.specs.Prelude.{ℕ, ◌+◌, ◌*◌, ◌≡◌, true, false, List, [], ◌∷◌, ◌++◌, take, replicate, Ok, Err}
+use Rattle.rules.specs.declared.Refusal.TheVariants.{ManyLines}
 use Rattle.rules.specs.Maker.{reset, walk, walk_refusal}
 use Rattle.rules.specs.CaseForms.{zero, no_answer, L1, L2, sample, card_file, session}
 use Rattle.volatile.specs.Cases.{Gives, half}
@@ -15,7 +16,9 @@ use Rattle.exports.specs.Told.{ActTold, CardTold, SessionTold}
 abbrev pub StepsTold : Type 0
 StepsTold =
     (of_walk (record { volatile = half 21 0 16; pin = zero }) 5 ≡ record { half = half 21 0 16; fuses = 5; answer = zero; refusal = 0 }) ×
-    (of_step (record { fuses = 5; volatile = half 17 0 7; pin = no_answer; refusal = 2 }) ≡
+    (of_step (record { fuses = 5; volatile = half 17 0 7; answer = Ok zero }) ≡
+    record { half = half 17 0 7; fuses = 5; answer = zero; refusal = 0 }) ×
+    (of_step (record { fuses = 5; volatile = half 17 0 7; answer = Err ManyLines }) ≡
     record { half = half 17 0 7; fuses = 5; answer = no_answer; refusal = 2 })
 
 -- The flags, each alone in its field, and none beside 9.

@@ -1,7 +1,9 @@
 -- Each answer of the card, the maker and the openers as the plain numbers that a bench gets.
 use Rattle.std.specs.Prelude.{ℕ, Bool, not, eqb, Result, Ok, Err}
 use Rattle.volatile.specs.Packed.{one}
-use Rattle.card.specs.declared.Told.{Told}
+use Rattle.rules.specs.Numbers.{numbered, number_in}
+use Rattle.rules.specs.Card.{pin_in}
+use Rattle.card.specs.declared.Stepped.{Stepped}
 use Rattle.walk.specs.declared.Walked.{Walked}
 use Rattle.looks.specs.declared.HeldFlags.{HeldFlags}
 use Rattle.looks.specs.Flags.{flags_held}
@@ -24,8 +26,10 @@ use Rattle.exports.specs.declared.openers.ZhavSession.{ZhavSession}
 abbrev pub of_walk : Walked → ℕ → ZhavStepped
 of_walk w fuses = record { half = w.volatile; fuses = fuses; answer = w.pin; refusal = 0 }
 
-abbrev pub of_step : Told → ZhavStepped
-of_step s = record { half = s.volatile; fuses = s.fuses; answer = s.pin; refusal = s.refusal }
+-- A step's answer: the pin's, 1 where refused, and the refusal, 0 if none.
+unfoldable pub of_step : Stepped → ZhavStepped
+unfolding numbered number_in pin_in
+of_step s = record { half = s.volatile; fuses = s.fuses; answer = pin_in (numbered s.answer); refusal = number_in s.answer }
 
 -- The flags, 1 for one that holds, and none where refused.
 unfoldable pub flag_bytes : Result HeldFlags ℕ → ZhavFlags

@@ -22,7 +22,7 @@ pub struct ZhavSession {
     pub refusal: u8,
 }
 
-#[tactic(auto, using(crate::proofs::Shown::card_told), unfolding(rules::specs::Numbers::numbered, rules::specs::Numbers::refused, file::specs::Opening::card_fuses, crate::specs::Rendered::card_file_of))]
+#[tactic(auto, unfolding(rules::specs::Numbers::numbered, rules::specs::Numbers::refused, file::specs::Opening::card_fuses, crate::specs::Rendered::card_file_of))]
 #[unsafe(no_mangle)]
 pub extern "C" fn zhav_open_card(file: &[u8], memory: &mut [u8]) -> ZhavCard
     ensures { CardTold file.now memory.old result memory.new }
@@ -36,6 +36,7 @@ pub extern "C" fn zhav_open_card(file: &[u8], memory: &mut [u8]) -> ZhavCard
     }
 }
 
+#[tactic(auto, using(crate::proofs::Shown::section_shown, crate::proofs::Shown::no_section), unfolding(rules::specs::Numbers::numbered, rules::specs::Numbers::refused, file::specs::Opening::session_fuses, file::specs::Opening::session_steps, crate::specs::Rendered::steps_from, crate::specs::Rendered::session_of))]
 #[unsafe(no_mangle)]
 pub extern "C" fn zhav_open_session(file: &[u8], memory: &mut [u8]) -> ZhavSession
     ensures { SessionTold file.now memory.old result memory.new }

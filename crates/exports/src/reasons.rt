@@ -17,7 +17,7 @@ pub struct ZhavWhy {
 }
 
 // The reason why CLK's fall would change nothing by right, PGM taken as low already.
-#[tactic(auto, unfolding(crate::specs::Rendered::reason_bytes, looks::specs::Reasons::reason_told, rules::specs::Numbers::numbered, rules::specs::Numbers::refused))]
+#[tactic(auto, unfolding(crate::specs::Rendered::reason_bytes, rules::specs::Numbers::numbered))]
 #[unsafe(no_mangle)]
 pub extern "C" fn zhav_reason(image: &[u8], fuses: u8, v: Volatile) -> ZhavWhy
     ensures { result ≡ reason_bytes (reason_answer image.now fuses v) }

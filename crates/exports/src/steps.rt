@@ -7,7 +7,7 @@ ghost use Rattle.card.specs.Calls.{StepTold, RunAnswered};
 ghost use Rattle.looks.specs.Flags.{flags_of};
 ghost use Rattle.exports.specs.Rendered.{of_walk, of_step, flag_bytes};
 
-use card::Told;
+use card::Stepped;
 use volatile::Volatile;
 use walk::Walked;
 
@@ -72,39 +72,45 @@ fn of_walk(w: Walked, fuses: u8) -> ZhavStepped
     }
 }
 
-fn of_step(s: Told) -> ZhavStepped
-    ensures { result ≡ of_step s }
-{
-    let next = s.volatile;
-    ZhavStepped {
-        half: next,
-        fuses: s.fuses,
-        answer: s.pin,
-        refusal: s.refusal,
+impl From<Stepped> for ZhavStepped {
+    ghost from_gives = { λ s r. r ≡ of_step s };
+
+    #[tactic(auto, unfolding(crate::specs::Rendered::of_step, rules::specs::Numbers::numbered, rules::specs::Numbers::number_in, rules::specs::Numbers::number_if_any, rules::specs::Card::pin_in))]
+    fn from(s: Stepped) -> ZhavStepped {
+        ZhavStepped {
+            half: s.volatile,
+            fuses: s.fuses,
+            answer: s.answer.unwrap_or(1),
+            refusal: rules::number_if_any(s.answer.err()),
+        }
     }
 }
 
+// One step, whatever it is.
+fn any_step(image: &mut [u8], fuses: u8, v: Volatile, n: u8) -> ZhavStepped
+    ensures { StepTold (given image.old fuses v) n (given image.new result.fuses result.half) result.answer result.refusal }
+{
+    card::step(image, fuses, v, n).into()
+}
+
 // One step. A walk is told at once.
+// By the hint it stands in both exported calls.
+#[inline(always)]
+fn step(image: &mut [u8], fuses: u8, v: Volatile, n: u8) -> ZhavStepped
+    ensures { StepTold (given image.old fuses v) n (given image.new result.fuses result.half) result.answer result.refusal }
+{
+    let w = walk::step(image, fuses, v, n);
+    if w.pin != walk::NO_WALK {
+        return of_walk(w, fuses);
+    }
+    any_step(image, fuses, v, n)
+}
+
 #[unsafe(no_mangle)]
 pub extern "C" fn zhav_step(image: &mut [u8], fuses: u8, v: Volatile, n: u8) -> ZhavStepped
     ensures { StepTold (given image.old fuses v) n (given image.new result.fuses result.half) result.answer result.refusal }
 {
-    let w = walk::step(image, fuses, v, n);
-    if w.pin != walk::NO_WALK {
-        return of_walk(w, fuses);
-    }
-    of_step(card::step_told(image, fuses, v, n))
-}
-
-// The same for `zhav_step_at` alone: a function with one caller becomes part of it, one with two is called.
-fn step_lent(image: &mut [u8], fuses: u8, v: Volatile, n: u8) -> ZhavStepped
-    ensures { StepTold (given image.old fuses v) n (given image.new result.fuses result.half) result.answer result.refusal }
-{
-    let w = walk::step(image, fuses, v, n);
-    if w.pin != walk::NO_WALK {
-        return of_walk(w, fuses);
-    }
-    of_step(card::step_told(image, fuses, v, n))
+    step(image, fuses, v, n)
 }
 
 // One step on a volatile half that is lent: what stands there afterwards is the half that the step hands back.
@@ -112,7 +118,7 @@ fn step_lent(image: &mut [u8], fuses: u8, v: Volatile, n: u8) -> ZhavStepped
 pub extern "C" fn zhav_step_at(image: &mut [u8], fuses: u8, v: &mut Volatile, n: u8) -> ZhavTold
     ensures { StepTold (given image.old fuses v.old) n (given image.new result.fuses v.new) result.answer result.refusal }
 {
-    let s = step_lent(image, fuses, *v, n);
+    let s = step(image, fuses, *v, n);
     *v = s.half;
     ZhavTold {
         fuses: s.fuses,
@@ -138,12 +144,12 @@ pub extern "C" fn zhav_run(
         half: half,
         done: ran.done,
         fuses: ran.fuses,
-        refusal: ran.refusal,
+        refusal: rules::number_if_any(ran.refusal),
     }
 }
 
 // SV, P1, R1 and E1, or 9.
-#[tactic(auto, using(crate::proofs::Shown::as_byte), unfolding(crate::specs::Rendered::flag_bytes, looks::specs::Flags::flags_held, rules::specs::Numbers::numbered, rules::specs::Numbers::refused))]
+#[tactic(auto, using(crate::proofs::Shown::as_byte), unfolding(crate::specs::Rendered::flag_bytes, rules::specs::Numbers::numbered))]
 #[unsafe(no_mangle)]
 pub extern "C" fn zhav_flags(v: Volatile) -> ZhavFlags
     ensures { result ≡ flag_bytes (flags_of v) }

@@ -14,7 +14,7 @@ fn count(file: &[u8], at: usize) -> usize
     ensures value { result ≡ count_at file.now at }
     ensures upper_bound { result < 65536 }
 {
-    file[at] as usize + 256 * (file[at + 1] as usize)
+    u16::from_le_bytes([file[at], file[at + 1]]) as usize
 }
 
 // 10 to 14.

@@ -6,6 +6,7 @@ use mathlib.Core.List.{List}
 use lib.ListN.{length, take}
 use lib.Seq.{take_at, take-length}
 use Rattle.memory.specs.Image.{digit}
+use Rattle.rules.specs.Numbers.{number_if_any}
 use Rattle.rules.specs.Halves.{fresh, off}
 use Rattle.rules.specs.Refusals.{longest}
 use Rattle.rules.specs.Card.{Ran as Run, answers_in, tries_left}
@@ -38,13 +39,13 @@ module _ (m : List ℕ) (fuses : ℕ) (steps answers : List ℕ) where
   -- What the fields of the answer say of the run.
   pub record FromFresh (r : Ran) (after pins : List ℕ) : Type 0 where
     pub done : r.done ≡ length ran.answers
-    pub refusal : r.refusal ≡ ran.refused
+    pub refusal : number_if_any r.refusal ≡ ran.refused
     pub memory : after ≡ ran.card.memory
     pub shown : take r.done pins ≡ ran.answers
 
   pub from_fresh :
       {r : Ran} {after pins : List ℕ} → length answers ≡ longest
-      → RunAnswered start steps answers (given after r.fuses r.volatile) r.done r.refusal pins
+      → RunAnswered start steps answers (given after r.fuses r.volatile) r.done (number_if_any r.refusal) pins
       → FromFresh r after pins
   unfolding fresh_card_run answers_in
   from_fresh {r} {after} {pins} room a =
@@ -62,7 +63,7 @@ module _ (m : List ℕ) (fuses : ℕ) (steps answers : List ℕ) where
   -- The code's four lines are those of the run.
   pub text_of :
       {r : Ran} {after pins : List ℕ} (given : ℕ) → FromFresh r after pins →
-      four_lines r.done given r.refusal pins (tries_left after) ≡ run_text m fuses steps given
+      four_lines r.done given (number_if_any r.refusal) pins (tries_left after) ≡ run_text m fuses steps given
   unfolding run_text reported four_lines
   text_of given f = rw (f.shown, f.done, f.refusal, f.memory, take-length ran.answers)
 

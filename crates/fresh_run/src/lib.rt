@@ -27,7 +27,7 @@ pub fn report(
     let told = Run {
         done: ran.done,
         given,
-        refusal: ran.refusal,
+        refusal: rules::number_if_any(ran.refusal),
         answers: &answers,
         left,
     };

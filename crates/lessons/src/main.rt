@@ -5,7 +5,6 @@
 use console::{Console, Standard, Unreadable};
 use std::fs;
 use std::rt::Files;
-use text::Assembled;
 use words::Stop;
 
 // Each lesson's text, and its session.
@@ -43,7 +42,7 @@ fn read<'a, F: Files>(files: &F, path: &str, into: &'a mut [u8]) -> Result<&'a [
 fn tell(out: &mut Standard, source: &[u8], recorded: &[u8]) {
     let mut session = [0u8; 4277];
     match text::assemble(source, &mut session) {
-        Assembled::Session(n) => {
+        Ok(n) => {
             out.number(n as u64);
             if &session[..n] == recorded {
                 out.say(b" bytes, as recorded\n")
@@ -51,9 +50,10 @@ fn tell(out: &mut Standard, source: &[u8], recorded: &[u8]) {
                 out.say(b" bytes, not as recorded\n")
             }
         }
-        Assembled::Wrong { line, refusal } => {
+        Err(wrong) => {
             let mut said = [0u8; 84];
-            if let Some(n) = text_errors::error_line(line, refusal, &mut said) {
+            let fault = wrong.fault.number();
+            if let Some(n) = text_errors::error_line(wrong.line, fault, &mut said) {
                 out.say(&said[..n])
             }
         }

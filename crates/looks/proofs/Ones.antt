@@ -17,3 +17,5 @@ ones_of_byte x h = eqb-true (ones x) (ones_in 8 x) (below 256 (λ (y : ℕ). eqb
 pub none_past : (m : List ℕ) → length m ≤ 12 → tries_left m ≡ 0
 unfolding tries_left ones_in
 none_past m h = rw (get_or-eq_default m 0 h)
+
+pub ruleset tries = (ones_of_byte, none_past)

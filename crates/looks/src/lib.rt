@@ -23,7 +23,7 @@ pub struct HeldFlags {
 }
 
 // SV, P1, R1 and E1, or 9.
-#[tactic(auto, unfolding(rules::specs::Numbers::numbered, rules::specs::Numbers::number, crate::specs::Flags::flags_of, volatile::specs::Packed::unpacked))]
+#[tactic(auto, unfolding(rules::specs::Numbers::numbered, crate::specs::Flags::flags_of))]
 pub fn flags(v: Volatile) -> Result<HeldFlags, Refusal>
     ensures { numbered result ≡ flags_of v }
 {
@@ -39,7 +39,7 @@ pub fn flags(v: Volatile) -> Result<HeldFlags, Refusal>
 }
 
 // The tries left: the ones in bits 96 to 103, none in an image too short for them.
-#[tactic(auto, using(crate::proofs::Ones::ones_of_byte, crate::proofs::Ones::none_past), unfolding(rules::specs::Card::tries_left))]
+#[tactic(auto, using(crate::proofs::Ones::tries), unfolding(rules::specs::Card::tries_left))]
 pub fn tries_left(image: &[u8]) -> u32
     ensures { result ≡ tries_left image.now }
 {
@@ -74,7 +74,7 @@ fn first_missing(mask: u8) -> Reason
 }
 
 // The first that holds, of a half that 9 lets pass or not.
-#[tactic(auto, unfolding(rules::specs::Reason::reason, volatile::specs::Packed::unpacked, rules::specs::Lines::high, rules::specs::Lines::place))]
+#[tactic(auto, unfolding(rules::specs::Reason::reason, volatile::specs::Packed::unpacked, rules::specs::Lines::high))]
 fn reason_of(fuses: u8, v: Volatile) -> Reason
     ensures { result ≡ reason fuses (unpacked v) }
 {
@@ -92,14 +92,10 @@ fn reason_of(fuses: u8, v: Volatile) -> Reason
 }
 
 // Why CLK's fall would change nothing by right, or that the right is there; 10, 14, 9. PGM is taken as low already.
-#[tactic(auto, unfolding(crate::specs::Reasons::reason_answer, refusals::specs::Before::given_refusal, rules::specs::Refusals::before_a_step, rules::specs::Numbers::numbered, rules::specs::Numbers::number))]
+#[tactic(auto, unfolding(crate::specs::Reasons::reason_answer, rules::specs::Numbers::numbered, rules::specs::Numbers::number_in))]
 pub fn reason(image: &[u8], fuses: u8, v: Volatile) -> Result<Reason, Refusal>
     ensures { numbered result ≡ reason_answer image.now fuses v }
 {
-    match refusals::state_refusal(image, fuses, v) {
-        0 => Ok(reason_of(fuses, v)),
-        10 => Err(Refusal::ImageLength),
-        14 => Err(Refusal::FuseByte),
-        _ => Err(Refusal::MadeUp),
-    }
+    refusals::state_refusal(image, fuses, v)?;
+    Ok(reason_of(fuses, v))
 }

@@ -2,7 +2,7 @@
 #![tactic(auto)]
 
 use console::{Console, Standard};
-use rules::{Answer, Refusal};
+use rules::Refusal;
 use volatile::Volatile;
 
 const CODE: u16 = 0xa53c;
@@ -59,10 +59,9 @@ impl Card {
 
     // A step with no difference shows the pin.
     fn pin(&mut self) -> u8 {
-        match card::step(&mut self.memory, self.fuses, self.volatile, IDLE).answer {
-            Answer::Pin(p) => p,
-            Answer::Refused(_) => 1,
-        }
+        card::step(&mut self.memory, self.fuses, self.volatile, IDLE)
+            .answer
+            .unwrap_or(1)
     }
 
     // To bit 178, from wherever the card stands.

@@ -6,7 +6,10 @@ use lib.Dec.{eqb, ltb}
 use lib.ListN.{length}
 use borrow.Author.Tests.{eqb-true, eq-eqb, ne_eqb, lt-ltb, le-ltb, ltb-false, not-false}
 use Rattle.memory.specs.Image.{bytes}
+use Rattle.rules.specs.declared.Refusal.{Refusal}
+use Rattle.rules.specs.Numbers.{number}
 use Rattle.rules.specs.Steps.{pin}
+use Rattle.rules.proofs.Numbers.{some_number}
 use Rattle.theorems.proofs.Tests.{peel}
 use Rattle.volatile.specs.Packed.{Given, card_of, made_up_word, plainly_sound}
 use Rattle.volatile.specs.Inner.{Ready}
@@ -33,18 +36,18 @@ ready_at g p z e =
     }
 
 module _ (g : Given) (steps room : ℕ) where
-  pub state_first : (k : ℕ) → given_refusal g ≡ k → (k ≡ 0 → ⊥) → given_run_refusal g steps room ≡ k
+  pub state_first : (r : Refusal) → number r ≡ given_refusal g → number r ≡ given_run_refusal g steps room
   unfolding given_run_refusal
-  state_first k e h = rw (e, ne_eqb k 0 h)
+  state_first r e = rw (← e, ne_eqb (number r) 0 (some_number r))
 
-  pub over_long : given_refusal g ≡ 0 → 4096 < steps → given_run_refusal g steps room ≡ 18
+  pub over_long : 0 ≡ given_refusal g → 4096 < steps → 18 ≡ given_run_refusal g steps room
   unfolding given_run_refusal
-  over_long e h = rw (e, lt-ltb 4096 steps h)
+  over_long e h = rw (← e, lt-ltb 4096 steps h)
 
-  pub no_room : given_refusal g ≡ 0 → steps ≤ 4096 → room < steps → given_run_refusal g steps room ≡ 19
+  pub too_little_room : 0 ≡ given_refusal g → steps ≤ 4096 → room < steps → 19 ≡ given_run_refusal g steps room
   unfolding given_run_refusal
-  no_room e h k = rw (e, le-ltb 4096 steps h, lt-ltb room steps k)
+  too_little_room e h k = rw (← e, le-ltb 4096 steps h, lt-ltb room steps k)
 
-  pub all_well : given_refusal g ≡ 0 → steps ≤ 4096 → steps ≤ room → given_run_refusal g steps room ≡ 0
+  pub all_well : 0 ≡ given_refusal g → steps ≤ 4096 → steps ≤ room → 0 ≡ given_run_refusal g steps room
   unfolding given_run_refusal
-  all_well e h k = rw (e, le-ltb 4096 steps h, le-ltb room steps k)
+  all_well e h k = rw (← e, le-ltb 4096 steps h, le-ltb room steps k)

@@ -4,10 +4,10 @@ use native.Mathlib.Omega.{arith}
 use mathlib.Core.Path.{◌≡◌, refl, sym, ap, ◌∙◌}
 use mathlib.Core.List.{[], ◌∷◌}
 use lib.ListN.{get_or}
-use Rattle.std.specs.Prelude.{Result, Ok, Err, ⊤}
+use Rattle.std.specs.Prelude.{Option, Some, None, Result, Ok, Err, ⊤}
 use Rattle.rules.specs.declared.Refusal.{Refusal}
 use Rattle.rules.specs.declared.Refusal.TheVariants as refusal
-use Rattle.rules.specs.Numbers.{number, numbered, number_in}
+use Rattle.rules.specs.Numbers.{number, numbered, number_in, number_if_any}
 
 -- The refusal of a number. At the numbers that none has it stands for nothing.
 unfoldable refusal_of : ℕ → Refusal
@@ -47,6 +47,9 @@ named refusal.NoTryLeft = (omega arith, refl)
 pub at_least_1 : (r : Refusal) → 1 ≤ number r
 at_least_1 r = (named r).0
 
+pub some_number : (r : Refusal) → number r ≡ 0 → ⊥
+some_number r e = let k : 1 ≤ number r = at_least_1 r in absurd (omega (arith, e))
+
 pub same_number : (r r' : Refusal) → number r ≡ number r' → r ≡ r'
 same_number r r' e = sym (named r).1 ∙ (ap refusal_of e ∙ (named r').1)
 
@@ -65,3 +68,10 @@ same_number_in (Ok x) (Ok y) e = refl
 same_number_in (Ok x) (Err r) e = let k : 1 ≤ number r = at_least_1 r in absurd (omega arith)
 same_number_in (Err r) (Ok x) e = let k : 1 ≤ number r = at_least_1 r in absurd (omega arith)
 same_number_in (Err r) (Err r') e = ap Err (same_number r r' e)
+
+pub same_number_if_any : (a a' : Option Refusal) → number_if_any a ≡ number_if_any a' → a ≡ a'
+unfolding number_if_any
+same_number_if_any None None e = refl
+same_number_if_any None (Some r) e = let k : 1 ≤ number r = at_least_1 r in absurd (omega arith)
+same_number_if_any (Some r) None e = let k : 1 ≤ number r = at_least_1 r in absurd (omega arith)
+same_number_if_any (Some r) (Some r') e = ap Some (same_number r r' e)

@@ -1,39 +1,37 @@
 -- 01, "Numbers a caller can get" and the demands: a step and a run, for every image, state and list of steps.
-use Rattle.std.specs.Prelude.{ℕ, cond, List, [], ◌∷◌, ◌++◌, eqb, length, get_or, drop}
+use Rattle.std.specs.Prelude.{ℕ, cond, List, [], ◌∷◌, ◌++◌, eqb, length, get_or, drop, Result, Ok, Err}
 use Rattle.std.specs.Int.Count.{ones_in}
-use Rattle.rules.specs.declared.Answer.{Answer}
-use Rattle.rules.specs.declared.Answer.TheVariants.{Pin, Refused}
 use Rattle.rules.specs.Halves.{Volatile, Card}
 use Rattle.rules.specs.Steps.{next, pin}
 use Rattle.rules.specs.Refusals.{refusal, made_up, state_refusal, run_refusal}
 
--- The refusal of an answer, 0 where it is none, and what the pin says in it.
-unfoldable pub refusal_in : Answer → ℕ
-refusal_in (Pin b) = 0
-refusal_in (Refused k) = k
+-- An answer is the pin's, or the number of a refusal: the refusal, 0 where it is none, and what the pin says in it.
+unfoldable pub refusal_in : Result ℕ ℕ → ℕ
+refusal_in (Ok b) = 0
+refusal_in (Err k) = k
 
-unfoldable pub pin_in : Answer → ℕ
-pin_in (Pin b) = b
-pin_in (Refused k) = 1
+unfoldable pub pin_in : Result ℕ ℕ → ℕ
+pin_in (Ok b) = b
+pin_in (Err k) = 1
 
 -- A step of a sound card: "A refused step changes nothing and gives back the state as it came, with the number, marked as a refusal, in
 -- place of a pin answer".
 unfoldable pub stepped : Card → ℕ → Card
 stepped c n = cond (eqb (refusal c.volatile n) 0) (next c n) c
 
-unfoldable pub answered : Card → ℕ → Answer
-answered c n = cond (eqb (refusal c.volatile n) 0) (Pin (pin (next c n))) (Refused (refusal c.volatile n))
+unfoldable pub answered : Card → ℕ → Result ℕ ℕ
+answered c n = cond (eqb (refusal c.volatile n) 0) (Ok (pin (next c n))) (Err (refusal c.volatile n))
 
 -- A step of whatever comes in: 10, 14 and 9 before 1 to 7.
 unfoldable pub checked_step : Card → ℕ → Card
 unfolding stepped
 checked_step c n = cond (eqb (state_refusal c) 0) (stepped c n) c
 
-unfoldable pub checked_answer : Card → ℕ → Answer
+unfoldable pub checked_answer : Card → ℕ → Result ℕ ℕ
 unfolding answered
 checked_answer c n =
     let r = state_refusal c in
-    cond (eqb r 0) (answered c n) (Refused r)
+    cond (eqb r 0) (answered c n) (Err r)
 
 -- The result of a run: the card, an answer for each step that was done, and the refusal, 0 if none.
 pub record Ran : Type 0 where

@@ -1,11 +1,9 @@
 -- What a case of the table is made of, and when it holds. The cases are in `specs.Cases`.
-use Rattle.std.specs.Prelude.{ℕ, ◌+◌, ◌-◌, ◌/◌, ◌%◌, Bool, true, false, cond, ◌&&◌, List, [], ◌∷◌, ◌++◌, eqb, length, take, drop, replicate, set}
+use Rattle.std.specs.Prelude.{ℕ, ◌+◌, ◌-◌, ◌/◌, ◌%◌, Bool, true, false, cond, ◌&&◌, List, [], ◌∷◌, ◌++◌, eqb, length, take, drop, replicate, set, Result, Ok, Err}
 use Rattle.std.specs.Bool.{beq}
 use Rattle.std.specs.Int.Count.{ones_in}
 use Rattle.memory.specs.Image.{digit, bytes}
 use Rattle.rules.specs.Halves.{Volatile, Card, fresh}
-use Rattle.rules.specs.declared.Answer.{Answer}
-use Rattle.rules.specs.declared.Answer.TheVariants.{Pin, Refused}
 use Rattle.rules.specs.declared.Reason.{Reason}
 use Rattle.rules.specs.Refusals.{state_refusal}
 use Rattle.rules.specs.Reason.{number, reason}
@@ -125,7 +123,7 @@ pub data Case : Type 0 where
   -- At each of these addresses the pin of a card so held says this.
   Shows : Bool → ℕ → List ℕ → ℕ → List (ℕ × ℕ) → Case
   -- Of this card this step makes that card and gets this answer, alone and in a run.
-  Step : Card → ℕ → Card → Answer → Case
+  Step : Card → ℕ → Card → Result ℕ ℕ → Case
   -- The state check gives this refusal, 0 or 9, in an empty run, in a step and to the call that reads flags.
   Checks : Card → ℕ → Case
   -- Opening this card file, or this session, into a buffer of this length gets this refusal, 0 if it opens.
@@ -176,16 +174,16 @@ shows fus fuses m holding (p ∷ ps) =
     same_bytes (checked_run (idle_at fus fuses m p.0 holding) (idle fus ∷ []) 1).answers (p.1 ∷ []) &&
     shows fus fuses m holding ps
 
-unfoldable pub same_answer : Answer → Answer → Bool
-same_answer (Pin a) (Pin b) = eqb a b
-same_answer (Pin a) (Refused k) = false
-same_answer (Refused j) (Pin b) = false
-same_answer (Refused j) (Refused k) = eqb j k
+unfoldable pub same_answer : Result ℕ ℕ → Result ℕ ℕ → Bool
+same_answer (Ok a) (Ok b) = eqb a b
+same_answer (Ok a) (Err k) = false
+same_answer (Err j) (Ok b) = false
+same_answer (Err j) (Err k) = eqb j k
 
 -- What an answer leaves in a run's answers.
-unfoldable pub pins : Answer → List ℕ
-pins (Pin b) = b ∷ []
-pins (Refused k) = []
+unfoldable pub pins : Result ℕ ℕ → List ℕ
+pins (Ok b) = b ∷ []
+pins (Err k) = []
 
 -- When a case holds. The runs and steps are checked ones: a start that 10, 14 or 9 refuses holds only in a case that says so.
 unfoldable pub holds : Case → Bool
@@ -259,12 +257,12 @@ blows fus fuses a holding after = Runs (idle_at fus fuses sample a holding) (blo
 -- One step, from these levels to those.
 unfoldable pub one_step : ℕ → ℕ → ℕ → ℕ → ℕ → ℕ → ℕ → Case
 unfolding card_at sample
-one_step levels a holding n b then answer = Step (card_at levels 7 sample a holding) n (card_at n 7 sample b then) (Pin answer)
+one_step levels a holding n b then answer = Step (card_at levels 7 sample a holding) n (card_at n 7 sample b then) (Ok answer)
 
 -- One step that is refused.
 unfoldable pub refuses_step : ℕ → ℕ → ℕ → ℕ → ℕ → Case
 unfolding card_at sample
-refuses_step levels a holding n k = Step (card_at levels 7 sample a holding) n (card_at levels 7 sample a holding) (Refused k)
+refuses_step levels a holding n k = Step (card_at levels 7 sample a holding) n (card_at levels 7 sample a holding) (Err k)
 
 -- A state that 9 refuses, and one that it lets pass.
 unfoldable pub made_up_at : ℕ → ℕ → ℕ → Case
@@ -279,13 +277,13 @@ sound_at levels a holding = Checks (card_at levels 7 sample a holding) 0
 unfoldable pub cuts : ℕ → ℕ → List ℕ → ℕ → ℕ → Case
 unfolding card_at
 cuts levels fuses m a holding =
-    Step (card_at levels fuses m a (holding + Programming)) (levels - 1) (card_at (levels - 1) fuses m 0 none) (Pin released)
+    Step (card_at levels fuses m a (holding + Programming)) (levels - 1) (card_at (levels - 1) fuses m 0 none) (Ok released)
 
 -- A step of a card without power that 10, 14 or 9 refuses, alone and in a run, and that 1 or 2 would refuse or let pass.
 unfoldable pub unready : ℕ → ℕ → List ℕ → ℕ → ℕ → ℕ → Case
 unfolding card_at
 unready levels fuses m holding n k =
-    Step (card_at levels fuses m 0 holding) n (card_at levels fuses m 0 holding) (Refused k)
+    Step (card_at levels fuses m 0 holding) n (card_at levels fuses m 0 holding) (Err k)
 
 -- Programming of this kind is under way: a latched 1 erases, 0 writes.
 unfoldable pub tells : Bool → ℕ → ℕ → ℕ → ℕ → Reason → Case

@@ -1,7 +1,6 @@
 -- 01, "Numbers a caller can get": each refusal, beside it what is accepted, and each before those after it.
-use Rattle.std.specs.Prelude.{◌+◌, true, false, not, ◌&&◌, ◌||◌, List, [], ◌∷◌, eqb, leb, replicate}
+use Rattle.std.specs.Prelude.{◌+◌, true, false, not, ◌&&◌, ◌||◌, List, [], ◌∷◌, eqb, leb, replicate, Ok, Err}
 use Rattle.std.specs.Bool.{beq}
-use Rattle.rules.specs.declared.Answer.TheVariants.{Pin, Refused}
 use Rattle.rules.specs.Card.{refusal_in, pin_in, answers_in}
 use Rattle.rules.specs.CaseForms.{none, SV, P1, R1, E1, Match, Latch, Programming, zero, one, released, no_answer}
 use Rattle.rules.specs.CaseForms.{card_at, sample, same_bytes, session, Case, Refuses, Prints, Claims, one_step, refuses_step, made_up_at, sound_at, unready}
@@ -118,8 +117,8 @@ state_cases =
 unfoldable pub answer_cases : List Case
 unfolding refusal_in pin_in
 answer_cases =
-    Claims (eqb (refusal_in (Pin zero)) 0 && (eqb (refusal_in (Pin one)) 0 && eqb (refusal_in (Refused 3)) 3)) ∷
-    Claims (eqb (pin_in (Pin zero)) zero && (eqb (pin_in (Pin one)) one && eqb (pin_in (Refused 3)) no_answer)) ∷
+    Claims (eqb (refusal_in (Ok zero)) 0 && (eqb (refusal_in (Ok one)) 0 && eqb (refusal_in (Err 3)) 3)) ∷
+    Claims (eqb (pin_in (Ok zero)) zero && (eqb (pin_in (Ok one)) one && eqb (pin_in (Err 3)) no_answer)) ∷
     []
 
 -- "stops at the first refused one, giving its number and the count done": no step is looked at before its turn.

@@ -2,8 +2,7 @@
 --
 -- Levels are sums as in 01: VCC 1, RST 2, CLK 4, PGM 8, I/O 16, FUS 32. So 17 is idle with FUS low and 49 with FUS high, 19 and 51 the
 -- same with RST high, 21 idle with CLK high, 25 with PGM high, 29 with both.
-use Rattle.std.specs.Prelude.{ℕ, ◌+◌, List, [], ◌∷◌, set}
-use Rattle.rules.specs.declared.Answer.TheVariants.{Pin}
+use Rattle.std.specs.Prelude.{ℕ, ◌+◌, List, [], ◌∷◌, set, Ok}
 use Rattle.rules.specs.Maker.{reset}
 use Rattle.rules.specs.CaseForms.{none, SV, P1, R1, E1, Match, Latch, Programming, L1, L2, zero, one, released}
 use Rattle.rules.specs.CaseForms.{card_at, idle_at, ones, zeros, image, sample, Case, Runs, Shows, Step, Claims, walks, one_step, cuts}
@@ -59,7 +58,7 @@ line_cases =
     one_step 55 1240 (all_set + Latch) 51 1240 all_set released ∷
     one_step 23 176 Latch 19 176 none released ∷
     one_step 7 177 none 3 177 none released ∷
-    Step (card_at 23 5 sample 1232 (Match + Latch)) 19 (card_at 19 5 sample 1232 Match) (Pin released) ∷
+    Step (card_at 23 5 sample 1232 (Match + Latch)) 19 (card_at 19 5 sample 1232 Match) (Ok released) ∷
     -- Standing on 176 or 177, whose bits are 1, sets no flag: only arriving does.
     one_step 17 176 none 17 176 none released ∷
     one_step 17 176 none 21 176 Latch released ∷
@@ -101,11 +100,11 @@ unfoldable pub start_cases : List Case
 unfolding one_step card_at idle_at ones zeros image
 start_cases =
     one_step 9 1360 none 13 1360 Programming released ∷
-    Step (card_at 25 7 zeros 1360 none) 29 (card_at 29 7 zeros 1360 (Latch + Programming)) (Pin released) ∷
-    Step (card_at 29 7 zeros 1360 (Latch + Programming)) 21 (card_at 21 7 zeros 1360 (Latch + Programming)) (Pin released) ∷
-    Step (card_at 21 7 zeros 1360 (Latch + Programming)) 5 (card_at 5 7 zeros 1360 (Latch + Programming)) (Pin released) ∷
-    Step (card_at 5 7 zeros 1360 (Latch + Programming)) 1 (card_at 1 7 (image ((170, 0) ∷ (2, 255) ∷ (2, 0) ∷ [])) 1360 none) (Pin one) ∷
-    Step (card_at 21 7 ones 1360 Programming) 17 (card_at 17 7 (image ((170, 255) ∷ (1, 127) ∷ (3, 255) ∷ [])) 1360 none) (Pin zero) ∷
+    Step (card_at 25 7 zeros 1360 none) 29 (card_at 29 7 zeros 1360 (Latch + Programming)) (Ok released) ∷
+    Step (card_at 29 7 zeros 1360 (Latch + Programming)) 21 (card_at 21 7 zeros 1360 (Latch + Programming)) (Ok released) ∷
+    Step (card_at 21 7 zeros 1360 (Latch + Programming)) 5 (card_at 5 7 zeros 1360 (Latch + Programming)) (Ok released) ∷
+    Step (card_at 5 7 zeros 1360 (Latch + Programming)) 1 (card_at 1 7 (image ((170, 0) ∷ (2, 255) ∷ (2, 0) ∷ [])) 1360 none) (Ok one) ∷
+    Step (card_at 21 7 ones 1360 Programming) 17 (card_at 17 7 (image ((170, 255) ∷ (1, 127) ∷ (3, 255) ∷ [])) 1360 none) (Ok zero) ∷
     Runs (idle_at L2 7 ones 1360 none) (25 ∷ 9 ∷ 13 ∷ 12 ∷ []) (card_at 12 7 ones 0 none) [] ∷
     []
 

@@ -2,9 +2,8 @@
 -- name. Of demand 1, that every call gets an answer and an end, and of demand 2 the first sentence are the contracts of step and run
 -- themselves (`StepAnswered`, `RunAnswered` of the crate card), which hold for every input; that they give what the checked step and run
 -- give is proved there too (`AsDefined`), for a half whose word has none but a card's flags. With another flag there, 9.
-use Rattle.std.specs.Prelude.{ℕ, zero, suc, ◌+◌, ◌*◌, ◌<◌, ◌≤◌, ◌≡◌, Bool, true, false, cond, ◌||◌, List, [], ◌∷◌, eqb, length, get_or, take}
+use Rattle.std.specs.Prelude.{ℕ, zero, suc, ◌+◌, ◌*◌, ◌<◌, ◌≤◌, ◌≡◌, Bool, true, false, cond, ◌||◌, List, [], ◌∷◌, eqb, length, get_or, take, Result}
 use Rattle.memory.specs.Image.{bytes, bit, written, erased_word}
-use Rattle.rules.specs.declared.Answer.{Answer}
 use Rattle.rules.specs.Halves.{Card, off, fresh}
 use Rattle.rules.specs.Lines.{VCC, high}
 use Rattle.rules.specs.Zones.{between}
@@ -143,7 +142,7 @@ after c [] = c
 after c (n ∷ ns) = after (checked_step c n) ns
 
 -- What each of the steps got: the pin's answer or the refusal.
-unfoldable pub answers : Card → List ℕ → List Answer
+unfoldable pub answers : Card → List ℕ → List (Result ℕ ℕ)
 answers c [] = []
 answers c (n ∷ ns) = checked_answer c n ∷ answers (checked_step c n) ns
 

@@ -1,5 +1,5 @@
 -- 01, "Numbers a caller can get" and what the openers and the step maker refuse by: the number of each refusal.
-use Rattle.std.specs.Prelude.{ℕ, Result, Ok, Err}
+use Rattle.std.specs.Prelude.{ℕ, Option, Some, None, Result, Ok, Err}
 use Rattle.rules.specs.declared.Refusal.{Refusal}
 use Rattle.rules.specs.declared.Refusal.TheVariants as refusal
 
@@ -41,3 +41,9 @@ unfoldable pub number_in : {A : Type 0} → Result A Refusal → ℕ
 unfolding number
 number_in (Ok x) = 0
 number_in (Err r) = number r
+
+-- The number of a refusal, 0 where there is none.
+unfoldable pub number_if_any : Option Refusal → ℕ
+unfolding number
+number_if_any None = 0
+number_if_any (Some r) = number r

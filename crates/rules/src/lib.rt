@@ -2,7 +2,7 @@
 #![tactic(auto)]
 
 ghost use Rattle.std.specs.Prelude.{◌≡◌};
-ghost use Rattle.rules.specs.Numbers.{number};
+ghost use Rattle.rules.specs.Numbers.{number, number_if_any};
 
 // 01's numbers, once for the code; specs/ has them for the definitions (`bytes`, `longest`, and the places in File).
 
@@ -85,13 +85,6 @@ pub enum Reason {
     RightIsThere = 0,
 }
 
-// What a step gets: the pin's answer, or a refusal.
-#[derive(Clone, Copy)]
-pub enum Answer {
-    Pin(u8),
-    Refused(u8),
-}
-
 // Why a call is refused, by the number that a caller gets.
 #[derive(Clone, Copy, Debug, PartialEq, Eq)]
 pub enum Refusal {
@@ -126,4 +119,12 @@ impl Refusal {
     {
         self as u8
     }
+}
+
+// The number of a refusal, 0 where there is none.
+#[tactic(auto, unfolding(crate::specs::Numbers::number_if_any))]
+pub fn number_if_any(refusal: Option<Refusal>) -> u8
+    ensures { result ≡ number_if_any refusal }
+{
+    refusal.map_or(0, Refusal::number)
 }

@@ -3,11 +3,10 @@ use Prim.Native.Nat.{ℕ}
 use mathlib.Core.Path.{◌≡◌}
 use mathlib.Core.List.{List}
 use Rattle.memory.proofs.Determined.{determined}
-use Rattle.text.specs.declared.Assembled.{Assembled}
-use Rattle.text.specs.Assembling.{Assembles}
+use Rattle.text.specs.Assembling.{Answer, Assembles}
 
 pub assembly_determined :
-    (text buffer : List ℕ) (r r' : Assembled) (after after' : List ℕ) → Assembles text buffer r after → Assembles text buffer r' after' →
+    (text buffer : List ℕ) (r r' : Answer) (after after' : List ℕ) → Assembles text buffer r after → Assembles text buffer r' after' →
     (r ≡ r') × (after ≡ after')
 assembly_determined text buffer r r' after after' p q =
     let same = determined p.answer q.answer in

@@ -6,7 +6,7 @@ use mathlib.Core.List.{List, ◌++◌, append_assoc}
 use native.Mathlib.Nat.{lt_irrefl}
 use native.Mathlib.Omega.{arith}
 use borrow.Author.Tests.{eqb-true, eqb-false, ltb-false}
-use borrow.Rule.Slice.PartMut.{mid_of, put_mid, same_len_mid}
+use borrow.Rule.Slice.PartMut.{mid_of, put_mid}
 use lib.Dec.{eqb, ltb}
 use lib.ListN.{length, get_or, take, drop, length-append, length-drop}
 use lib.Seq.{length-take-le, take_at}
@@ -16,10 +16,7 @@ use Rattle.maker.specs.Act.{made, in_buffer, Acted}
 use Rattle.std.specs.Prelude.{Result, Ok, Err}
 use Rattle.text_lines.specs.declared.Act.{Act}
 use Rattle.text_steps.specs.Steps.{steps_of, refusal_of}
-use Rattle.text.specs.Sheet.{present, added, attempts_at, driven}
-use Rattle.text.specs.Progress.{sheet_of, outcome_of, count_of, Came}
-use Rattle.text.specs.declared.sheet.Progress.{Progress}
-use Rattle.text.specs.declared.sheet.Step.TheVariants.{On, Stopped}
+use Rattle.text.specs.Sheet.{Sheet, Went, Stopped, present, added, attempts_at, driven}
 
 -- So many steps were written, and there was room for them.
 pub record Fitted (xs : List ℕ) (room n : ℕ) : Type 0 where
@@ -43,7 +40,7 @@ wrote refusal room n xs e = go (eqb (act_refusal refusal xs room) 0) refl e
         (t : Bool) → eqb (act_refusal refusal xs room) 0 ≡ t
         → cond t (Ok (length xs)) (Err (act_refusal refusal xs room)) ≡ Ok n → Fitted xs room n
     go true z q = record { counted = cc; roomy = fits refusal room xs (eqb-true (act_refusal refusal xs room) 0 z) }
-    go false z q = let w : ◌≡◌ {A = ℕ} 0 1 = cc in absurd (eqb-false 0 1 refl w)
+    go false z q = cc
 
 -- The steps after those so far.
 joined :
@@ -53,69 +50,69 @@ joined a xs rest post k n e f =
     rw (append_assoc xs rest post, ← append_assoc a xs (rest ++ post))
     (take_at (a ++ xs) (rest ++ post) (k + n) (length-append a xs ∙ omega (arith, e, f)))
 
--- The part of the buffer after the steps so far.
-abbrev pub free : Progress → List ℕ → List ℕ
-free p steps = mid_of p.count (length steps - p.count) steps
+module _ (act : Act) (image steps : List ℕ) (fuses count : ℕ) where
+  -- The sheet with the steps so far.
+  abbrev pub so_far : Sheet
+  so_far = record { image = image; fuses = fuses; steps = take count steps }
 
-module _ (act : Act) (p : Progress) (image steps : List ℕ) where
-  -- The act's steps, and its refusal, after the steps so far.
+  -- The part of the array after them.
+  abbrev pub free : List ℕ
+  free = mid_of count (longest - count) steps
+
+  -- The act's steps, and its refusal, after them.
   abbrev pub act_steps : List ℕ
-  act_steps = steps_of act (present (take p.count steps)) (get_or image attempts_at 0)
+  act_steps = steps_of act (present (take count steps)) (get_or image attempts_at 0)
 
-  abbrev pub act_refusal_lem : ℕ
-  act_refusal_lem = refusal_of act (present (take p.count steps)) (get_or image attempts_at 0)
+  abbrev pub its_refusal : ℕ
+  its_refusal = refusal_of act (present (take count steps)) (get_or image attempts_at 0)
 
--- What the maker did there: it answered r and left `after`.
-pub record Turn (act : Act) (p : Progress) (image steps : List ℕ) (r : Result ℕ ℕ) (after : List ℕ) : Type 0 where
-  pub full : length steps ≡ longest
-  pub within : p.count ≤ length steps
-  pub acted : Acted (act_refusal_lem act p image steps) (act_steps act p image steps) (free p steps) r after
+  -- What the maker did there: it answered r and left `after`.
+  pub record Turn (r : Result ℕ ℕ) (after : List ℕ) : Type 0 where
+    pub full : length steps ≡ longest
+    pub within : count ≤ longest
+    pub acted : Acted its_refusal act_steps free r after
 
 pub turn :
-    {act : Act} (p : Progress) (image : List ℕ) {steps after : List ℕ} {lines : ℕ} {r : Result ℕ ℕ}
-    → length steps ≡ longest → p.count ≤ length steps → lines ≡ present (take p.count steps)
-    → (let attempts = get_or image attempts_at 0 in Acted (refusal_of act lines attempts) (steps_of act lines attempts) (free p steps) r after)
-    → Turn act p image steps r after
-turn p image f w e a = record { full = f; within = w; acted = rw e at a }
+    (act : Act) (image steps : List ℕ) (fuses count lines : ℕ) (r : Result ℕ ℕ) (after : List ℕ)
+    → length steps ≡ longest → count ≤ longest → lines ≡ present (take count steps)
+    → (let attempts = get_or image attempts_at 0 in
+    Acted (refusal_of act lines attempts) (steps_of act lines attempts) (mid_of count (longest - count) steps) r after)
+    → Turn act image steps fuses count r after
+turn act image steps fuses count lines r after f w e a = record { full = f; within = w; acted = rw e at a }
 
-module _ {act : Act} {p : Progress} {image steps : List ℕ} {r : Result ℕ ℕ} {after : List ℕ} (t : Turn act p image steps r after) where
-  sofar : length (take p.count steps) ≡ p.count
-  sofar = length-take-le p.count steps t.within
+module _ {act : Act} {image steps : List ℕ} {fuses count : ℕ} {r : Result ℕ ℕ} {after : List ℕ}
+    (t : Turn act image steps fuses count r after) where
+  sofar : length (take count steps) ≡ count
+  sofar = length-take-le count steps (omega (arith, t.full, t.within))
 
-  free_length : length (free p steps) ≡ longest - p.count
-  free_length =
-      length-take-le (length steps - p.count) (drop p.count steps) (omega (arith, length-drop p.count steps)) ∙ rw t.full refl
+  free_length : length (free act image steps fuses count) ≡ longest - count
+  free_length = length-take-le (longest - count) (drop count steps) (omega (arith, length-drop count steps, t.full))
 
-  reached : driven act (sheet_of p image steps) ≡ added r (act_steps act p image steps) (sheet_of p image steps)
-  unfolding driven sheet_of
+  reached :
+      driven act (so_far act image steps fuses count)
+      ≡ added r (act_steps act image steps fuses count) (so_far act image steps fuses count)
+  unfolding driven
   reached = rw (sofar, t.acted.answer, free_length) refl
 
+  pub came_to_a_stop : {k : ℕ} → r ≡ Err k → Stopped k ≡ driven act (so_far act image steps fuses count)
+  unfolding added
+  came_to_a_stop e = sym (reached ∙ rw e refl)
+
   module _ (n : ℕ) (e : r ≡ Ok n) where
-    fitted : Fitted (act_steps act p image steps) (length (free p steps)) n
+    fitted : Fitted (act_steps act image steps fuses count) (length (free act image steps fuses count)) n
     fitted = wrote _ _ n _ (sym t.acted.answer ∙ e)
 
-    pub more_fits : p.count + n ≤ length steps
-    more_fits = omega (arith, fitted.counted, fitted.roomy, free_length, t.full)
+    pub more_fits : count + n ≤ longest
+    more_fits = omega (arith, fitted.counted, fitted.roomy, free_length, t.within)
 
     pub came_on :
-        length after ≡ length (free p steps)
-        → Came
-        (driven act (sheet_of p image steps))
-        (On (record { fuses = p.fuses; count = p.count + n }))
-        image
-        (put_mid p.count (length steps - p.count) steps after)
-    unfolding added outcome_of sheet_of count_of in_buffer
-    came_on kept =
-        let b : after ≡ act_steps act p image steps ++ drop n (free p steps) = t.acted.bytes ∙ rw e refl in
-        let all = put_mid p.count (length steps - p.count) steps after in
-        let j : take (p.count + n) all ≡ take p.count steps ++ act_steps act p image steps =
-        rw b (joined (take p.count steps) _ _ _ p.count n sofar fitted.counted) in
-        record {
-          outcome = rw (j, reached, e) refl;
-          within = rw (same_len_mid p.count (length steps - p.count) steps after kept) more_fits;
-        }
-
-  pub came_to_a_stop :
-      {k : ℕ} (image' steps' : List ℕ) → r ≡ Err k → Came (driven act (sheet_of p image steps)) (Stopped k) image' steps'
-  unfolding added outcome_of count_of
-  came_to_a_stop image' steps' e = record { outcome = sym (reached ∙ rw e refl); within = omega arith }
+        Went (record { image = image; fuses = fuses; steps = take (count + n) (put_mid count (longest - count) steps after) })
+        ≡ driven act (so_far act image steps fuses count)
+    unfolding added in_buffer
+    came_on =
+        let b : after ≡ act_steps act image steps fuses count ++ drop n (free act image steps fuses count) =
+        t.acted.bytes ∙ rw e refl in
+        let j :
+        take (count + n) (put_mid count (longest - count) steps after) ≡ take count steps ++ act_steps act image steps fuses count =
+        rw b (joined (take count steps) _ _ _ count n sofar fitted.counted) in
+        rw (j, reached, e) refl

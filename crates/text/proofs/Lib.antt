@@ -1,9 +1,8 @@
 mod Answering
-pub mod Fitting
-mod Arranging
 mod Bytes
 mod Determined
 mod Driving
+pub mod Fitting
 mod LineByLine
 mod Opening
 mod Sections

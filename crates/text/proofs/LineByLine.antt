@@ -1,119 +1,107 @@
--- The lines from a place of the text on: the first of them, and the rest.
-use Prim.Native.Nat.{ℕ, suc, ◌+◌, ◌-◌, ◌≤◌}
-use mathlib.Core.Path.{◌≡◌, refl, sym, ◌∙◌}
-use mathlib.Core.Bool.{cond}
-use mathlib.Core.List.{List, []}
+-- The lines of a text, one after the other.
+use Prim.Native.Nat.{ℕ, ◌+◌, ◌≤◌, ◌<◌}
+use mathlib.Core.Path.{◌≡◌, refl, ◌∙◌}
+use mathlib.Core.Bool.{Bool, true, false, cond}
+use mathlib.Core.List.{List, [], ◌∷◌}
 use native.Mathlib.Numerals.{add-one}
 use native.Mathlib.Omega.{arith}
-use borrow.Author.Tests.{eq-eqb, ne_eqb}
 use lib.Dec.{eqb}
-use lib.ListN.{length, take, drop, length-drop}
-use lib.Seq.{drop-drop}
-use Rattle.words.specs.Scan.{ahead_of, up_to, lines_of}
-use Rattle.words.specs.declared.Stop.TheVariants.{LineEnd}
-use Rattle.words.proofs.Lines.{rest_of, lines_first}
-use Rattle.words.proofs.Scans.{ahead_le}
-use Rattle.text_lines.specs.Orders.{all_unblown, line_order}
-use Rattle.text_lines.specs.declared.Order.{Order}
-use Rattle.text.specs.Sheet.{sheet_with, follow}
-use Rattle.text.specs.Meaning.{onward, reading}
-use Rattle.text.specs.Progress.{sheet_of, outcome_of, count_of, Came, reading_of, read_count, CameThrough}
-use Rattle.text.specs.declared.sheet.Progress.{Progress}
-use Rattle.text.specs.declared.sheet.Step.{Step}
-use Rattle.text.specs.declared.sheet.Step.TheVariants.{On, Stopped}
-use Rattle.text.specs.declared.reading.Read.TheVariants.{Whole, Amiss}
+use lib.ListN.{length, get_or, drop, drop_of_length-le}
+use lib.Seq.{drop-cons}
+use denote.Param.Members.{Mut}
+use denote.Ref.{Bor}
+use Rattle.std.specs.Fn.{CalledAt}
+use Rattle.std.specs.Slice.Iter as slice
+use Rattle.std.specs.Iterator.Adapters.{enumerate_source, enumerate_count, enumerate_steps}
+use Rattle.std.specs.declared.iter.Enumerate.{Enumerate}
+use Rattle.std.proofs.lemmas.Iterator.{YieldsList}
+use Rattle.std.proofs.lemmas.Iterator.Consumers.{YieldsList-at, YieldsList-from_enumerate}
+use Rattle.std.proofs.lemmas.Iterator.Splits.{YieldsList-from_slice_split}
+use Rattle.std.proofs.Common.{zero-add, ap}
+use Rattle.std.proofs.lemmas.List.FromFn.{length-enumerate_from, get_or-enumerate_from}
+use Rattle.std.specs.List.{slice_split, onto_first, enumerate_from}
+use Rattle.words.specs.Scan.{joined, lines_of}
+use Rattle.text_lines.specs.Orders.{line_order}
+use Rattle.text.specs.Sheet.{Sheet, Outcome, Went, Stopped, blank_sheet, obeyed}
+use Rattle.text.specs.Meaning.{Whole, Amiss, onward, reading, meaning}
 
--- The text from a place on, as it is lent.
-abbrev pub lent : List ℕ → ℕ → List ℕ
-lent text from = take (length text - from) (drop from text)
+-- The lines are the parts of the text at each LF.
+pub lines_split : (s : List ℕ) → lines_of s ≡ slice_split (λ b. eqb b 10) s
+unfolding lines_of joined
+lines_split [] = refl
+lines_split (b ∷ s) = rw (lines_split s) (go (eqb b 10) (slice_split (λ c. eqb c 10) s))
+  where
+    go : (t : Bool) (ls : List (List ℕ)) → cond t ([] ∷ ls) (joined b ls) ≡ cond t ([] ∷ ls) (onto_first b ls)
+    go true ls = refl
+    go false [] = refl
+    go false (l ∷ ls) = refl
 
--- In the middle of the text: what is left to read comes to what the whole comes to.
-pub record Underway (text image₀ steps₀ image steps : List ℕ) (p : Progress) (from line : ℕ) : Type 0 where
-  pub same : reading line (sheet_of p image steps) (lines_of (drop from text)) ≡ reading 1 (sheet_with image₀) (lines_of text)
-  pub place : from ≤ length text
-  pub numbered : line ≤ from + 1
-  pub within : p.count ≤ length steps
-  pub image_sized : length image ≡ length image₀
-  pub steps_sized : length steps ≡ length steps₀
+-- Line l is the next, and k says so.
+pub record Turn (text : List ℕ) (n k : ℕ) (l : List ℕ) : Type 0 where
+  pub within : n < length (lines_of text)
+  pub number : k ≡ n
+  pub line : l ≡ get_or (lines_of text) n l
 
-pub begun : (text image₀ steps₀ : List ℕ) → Underway text image₀ steps₀ image₀ steps₀ (record { fuses = all_unblown; count = 0 }) 0 1
-unfolding sheet_of sheet_with
-begun text image₀ steps₀ =
-    record { same = refl; place = omega arith; numbered = omega arith; within = omega arith; image_sized = refl; steps_sized = refl }
+-- The parts with their numbers.
+abbrev pub parts : List ℕ → List (ℕ × List ℕ)
+parts text = enumerate_from 0 (slice_split (λ b. eqb b 10) text)
 
--- What a line does in that place.
-pub record Turned (text image₀ steps₀ : List ℕ) (from line end : ℕ) (r : Step) (image' steps' : List ℕ) : Type 0 where
-  pub image : List ℕ
-  pub steps : List ℕ
-  pub p : Progress
-  pub underway : Underway text image₀ steps₀ image steps p from line
-  pub ended : end ≡ ahead_of LineEnd (lent text from)
-  pub came : Came (follow (line_order (take end (lent text from))) (sheet_of p image steps)) r image' steps'
-  pub image_kept : length image' ≡ length image
-  pub steps_kept : length steps' ≡ length steps
+-- What the code goes over: the parts at each LF, and their numbers.
+pub given :
+    {F : Type 0} {g : Mut F (Bor ℕ × Unit {0}) Bool} {f : F} {cut : _} {e s : Enumerate _} (text : List ℕ) → s ≡ e
+    → enumerate_source e ≡ cut → enumerate_count e ≡ 0 → slice.split_rest cut ≡ text → slice.split_done cut ≡ false
+    → slice.split_callee cut ≡ f → ((x : ℕ) (b : Bool) (q : F) → CalledAt g f x b q → (q ≡ f) × (b ≡ eqb x 10))
+    → YieldsList (enumerate_steps (slice.split_steps g)) (λ p. (p.0, p.1.now)) s (parts text)
+given text same source count rest done callee test =
+    YieldsList-at same
+    (YieldsList-from_enumerate (YieldsList-at source (YieldsList-from_slice_split _ (λ b. eqb b 10) text rest done callee test)) count)
 
--- The line is read for its order, and the order followed.
-pub turned :
-    {text image₀ steps₀ image steps image' steps' : List ℕ} {p : Progress} {from line end : ℕ} {order : Order} {r : Step}
-    → Underway text image₀ steps₀ image steps p from line → end ≡ ahead_of LineEnd (lent text from)
-    → order ≡ line_order (take end (lent text from)) → Came (follow order (sheet_of p image steps)) r image' steps'
-    → length image' ≡ length image → length steps' ≡ length steps → Turned text image₀ steps₀ from line end r image' steps'
-turned {image = image} {steps = steps} {p = p} u e o k i s =
+pub turn :
+    (text : List ℕ) (n k : ℕ) (l : List ℕ)
+    → (n < length (parts text)) × (◌≡◌ {A = ℕ × List ℕ} (k, l) (get_or (parts text) n (k, l))) → Turn text n k l
+turn text n k l (h, e) =
+    let ls = slice_split (λ b. eqb b 10) text in
+    let within : n < length ls = omega (arith, length-enumerate_from 0 ls) in
+    let at : ◌≡◌ {A = ℕ × List ℕ} (k, l) (0 + n, get_or ls n l) = e ∙ get_or-enumerate_from 0 ls n (k, l) within in
     record {
-      image = image;
-      steps = steps;
-      p = p;
-      underway = u;
-      ended = e;
-      came = rw o at k;
-      image_kept = i;
-      steps_kept = s;
+      within = rw (lines_split text) within;
+      number = ap (λ (p : ℕ × List ℕ). p.0) at ∙ zero-add n;
+      line = rw (lines_split text) (ap (λ (p : ℕ × List ℕ). p.1) at);
     }
 
-module _ {text image₀ steps₀ : List ℕ} {from line end : ℕ} {r : Step} {image' steps' : List ℕ}
-    (t : Turned text image₀ steps₀ from line end r image' steps') where
-  pub image_same : length image' ≡ length image₀
-  image_same = t.image_kept ∙ t.underway.image_sized
+pub all_read : (text : List ℕ) (n : ℕ) → n ≡ length (parts text) → length (lines_of text) ≤ n
+all_read text n e =
+    let ls = slice_split (λ b. eqb b 10) text in
+    rw (lines_split text) (omega (arith, length-enumerate_from 0 ls, e))
 
-  pub steps_same : length steps' ≡ length steps₀
-  steps_same = t.steps_kept ∙ t.underway.steps_sized
+-- n lines are read, and the rest comes to what the whole comes to.
+pub record Underway (text : List ℕ) (s : Sheet) (n : ℕ) : Type 0 where
+  pub same : reading (n + 1) s (drop n (lines_of text)) ≡ meaning text
 
-  -- The whole comes to what this line and those after it come to.
-  at_line :
-      onward line (outcome_of r image' steps')
-      (λ s. reading (line + 1) s (cond (eqb end (length (lent text from))) [] (lines_of (drop (from + (end + 1)) text))))
-      ≡ reading 1 (sheet_with image₀) (lines_of text)
-  unfolding reading up_to
-  at_line =
-      let rest = rest_of from text in
-      let e : end ≡ ahead_of LineEnd (drop from text) = rw rest at t.ended in
-      let f = rw rest at t.came.outcome in
-      sym
-      (rw (rest, lines_first (drop from text), ← e, f, drop-drop (suc end) from text, add-one line, add-one end) refl) ∙
-      t.underway.same
+pub begun : (text : List ℕ) → Underway text blank_sheet 0
+unfolding meaning
+begun text = record { same = refl }
 
-  pub amiss : {k : ℕ} → r ≡ Stopped k → CameThrough (reading 1 (sheet_with image₀) (lines_of text)) (Amiss line k) image' steps'
-  unfolding reading_of read_count outcome_of onward
-  amiss e = record { outcome = rw e at at_line; within = omega arith }
+module _ {text : List ℕ} {s : Sheet} {n : ℕ} (u : Underway text s n) where
+  pub at_end : length (lines_of text) ≤ n → Whole s ≡ meaning text
+  unfolding reading
+  at_end h = rw (drop_of_length-le (lines_of text) h) at u.same
 
-  module _ {q : Progress} (e : r ≡ On q) where
-    pub whole :
-        end ≡ length (lent text from)
-        → CameThrough (reading 1 (sheet_with image₀) (lines_of text)) (Whole q) image' steps'
-    unfolding reading_of read_count outcome_of count_of onward reading
-    whole z =
-        record { outcome = rw (e, eq-eqb end (length (lent text from)) z) at at_line; within = rw e at t.came.within }
+  -- Line l is read, and what its order comes to decides.
+  module _ {k : ℕ} {l : List ℕ} (t : Turn text n k l) where
+    first : reading (n + 1) s (l ∷ drop (n + 1) (lines_of text)) ≡ meaning text
+    first = rw (drop-cons (lines_of text) n l t.within, ← t.line, ← add-one n) at u.same
 
-    pub again : (end ≡ length (lent text from) → ⊥) → Underway text image₀ steps₀ image' steps' q (from + (end + 1)) (line + 1)
-    unfolding outcome_of count_of onward
-    again d =
-        let short : end ≤ length (lent text from) = rw t.ended (ahead_le LineEnd (lent text from)) in
-        let n = rw (← rest_of from text) at (length-drop from text) in
-        record {
-          same = rw (e, ne_eqb end (length (lent text from)) d) at at_line;
-          place = omega (arith, n, t.underway.place, short, d);
-          numbered = omega (arith, t.underway.numbered);
-          within = rw e at t.came.within;
-          image_sized = image_same;
-          steps_sized = steps_same;
-        }
+    at_line :
+        (o : Outcome) → o ≡ obeyed (line_order l) s
+        → onward (n + 1) o (λ t. reading (n + 1 + 1) t (drop (n + 1) (lines_of text))) ≡ meaning text
+    unfolding reading
+    at_line o e = rw (e, add-one (n + 1)) first
+
+    pub amiss : (refusal : ℕ) → Stopped refusal ≡ obeyed (line_order l) s → Amiss (k + 1) refusal ≡ meaning text
+    unfolding onward
+    amiss refusal e = rw t.number (at_line (Stopped refusal) e)
+
+    pub again : (s' : Sheet) → Went s' ≡ obeyed (line_order l) s → Underway text s' (n + 1)
+    unfolding onward
+    again s' e = record { same = at_line (Went s') e }

@@ -3,7 +3,6 @@ use Prim.Native.Nat.{ℕ, suc, ◌-◌, ◌≤◌}
 use mathlib.Core.Path.{◌≡◌, refl, ◌∙◌}
 use mathlib.Core.Bool.{Bool, true, false, cond}
 use mathlib.Core.List.{List, [], ◌∷◌, ◌++◌}
-use native.Mathlib.Nat.{lt_irrefl}
 use native.Mathlib.Omega.{arith}
 use lib.Dec.{eqb}
 use lib.ListN.{length, length-append, length-replicate}
@@ -18,10 +17,10 @@ use Rattle.text_lines.specs.Orders.{all_ones, line_order}
 use Rattle.text_lines.specs.declared.Change.{Change}
 use Rattle.text_lines.specs.declared.Change.TheVariants.{Fill, Bytes, Fuses}
 use Rattle.text_lines.specs.declared.Order.{Order}
-use Rattle.text_lines.specs.declared.Order.TheVariants.{Nothing, Image, Drive, Wrong}
+use Rattle.text_lines.specs.declared.Order.TheVariants.{Nothing, Image, Drive}
 use Rattle.text_lines.proofs.Fitting.{Fitting, line_fits}
 use Rattle.text.specs.Sheet.{Sheet, Outcome, Went, Stopped, sheet_with, blank_sheet, bytes_of, changed_image, changed_fuses}
-use Rattle.text.specs.Sheet.{changed, added, after_a_step, driven, follow}
+use Rattle.text.specs.Sheet.{changed, added, after_a_step, driven, follow, obeyed}
 use Rattle.text.specs.Meaning.{Reading, Whole, Amiss, onward, reading, meaning}
 use Rattle.text.proofs.Driving.{wrote}
 
@@ -39,7 +38,7 @@ pub data SoundReading : Reading → Type 0 where
   amiss : {line k : ℕ} → SoundReading (Amiss line k)
 
 module _ (s : Sheet) (h : Sound s) where
-  changed_sound : (c : Change) → Fitting (Image c) → Sound (changed c s)
+  changed_sound : (c : Change) → Fitting (Ok (Image c)) → Sound (changed c s)
   unfolding changed changed_image changed_fuses
   changed_sound (Fill first count v) f =
       record { image = length_filled first count v s.image ∙ h.image; fuses = h.fuses; steps = h.steps }
@@ -57,7 +56,7 @@ module _ (s : Sheet) (h : Sound s) where
       went t
   added_sound refusal xs (Err k) e = stopped
 
-  follow_sound : (o : Order) → Fitting o → SoundOutcome (follow o s)
+  follow_sound : (o : Order) → Fitting (Ok o) → SoundOutcome (follow o s)
   unfolding follow driven
   follow_sound Nothing f = went h
   follow_sound (Image c) f = go (eqb (length s.steps) 0)
@@ -66,13 +65,17 @@ module _ (s : Sheet) (h : Sound s) where
       go true = went (changed_sound c f)
       go false = stopped
   follow_sound (Drive act) f = added_sound _ _ _ refl
-  follow_sound (Wrong k) f = stopped
+
+  obeyed_sound : (r : Result Order ℕ) → Fitting r → SoundOutcome (obeyed r s)
+  unfolding obeyed
+  obeyed_sound (Ok o) f = follow_sound o f
+  obeyed_sound (Err k) f = stopped
 
 reading_sound : (ls : List (List ℕ)) (line : ℕ) (s : Sheet) → Sound s → SoundReading (reading line s ls)
 unfolding reading onward
 reading_sound [] line s h = whole h
 reading_sound (l ∷ ls) line s h =
-    go (follow (line_order l) s) (follow_sound s h (line_order l) (line_fits l)) (λ t k. reading_sound ls (suc line) t k)
+    go (obeyed (line_order l) s) (obeyed_sound s h (line_order l) (line_fits l)) (λ t k. reading_sound ls (suc line) t k)
   where
     go :
         (o : Outcome) → SoundOutcome o → ((t : Sheet) → Sound t → SoundReading (reading (suc line) t ls))
@@ -91,4 +94,4 @@ sound text s e = go (meaning text) (meaning_sound text) e
   where
     go : (m : Reading) → SoundReading m → m ≡ Whole s → Sound s
     go (Whole t) (whole h) q = let z : t ≡ s = cc in rw z at h
-    go (Amiss line k) amiss q = let z : ◌≡◌ {A = ℕ} 0 1 = cc in absurd (lt_irrefl 0 (omega (arith, z)))
+    go (Amiss line k) amiss q = cc

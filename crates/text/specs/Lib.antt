@@ -1,4 +1,4 @@
 pub mod Sheet
 pub mod Meaning
-pub mod Progress
+pub mod Held
 pub mod Assembling

@@ -3,7 +3,7 @@ use Rattle.std.specs.Prelude.{ℕ, suc, ◌/◌, ◌%◌, ◌≡◌, List, [], �
 use Rattle.memory.specs.Image.{bytes}
 use Rattle.words.specs.Scan.{lines_of}
 use Rattle.text_lines.specs.Orders.{line_order}
-use Rattle.text.specs.Sheet.{Sheet, Outcome, Went, Stopped, blank_sheet, follow}
+use Rattle.text.specs.Sheet.{Sheet, Outcome, Went, Stopped, blank_sheet, obeyed}
 
 -- The whole text's sheet, or the first wrong line and its refusal.
 pub data Reading : Type 0 where
@@ -18,7 +18,7 @@ onward line (Stopped refusal) rest = Amiss line refusal
 -- Line by line, the first having this number.
 unfoldable pub reading : ℕ → Sheet → List (List ℕ) → Reading
 reading line s [] = Whole s
-reading line s (l ∷ ls) = onward line (follow (line_order l) s) (λ t. reading (suc line) t ls)
+reading line s (l ∷ ls) = onward line (obeyed (line_order l) s) (λ t. reading (suc line) t ls)
 
 -- A text from its first line on.
 unfoldable pub meaning : List ℕ → Reading

@@ -84,4 +84,9 @@ unfoldable pub follow : Order → Sheet → Outcome
 follow order.Nothing s = Went s
 follow (order.Image c) s = cond (eqb (length s.steps) 0) (Went (changed c s)) (Stopped after_a_step)
 follow (order.Drive act) s = driven act s
-follow (order.Wrong refusal) s = Stopped refusal
+
+-- The outcome of a line: of its order, if it is not wrong.
+unfoldable pub obeyed : Result Order ℕ → Sheet → Outcome
+unfolding follow
+obeyed (Ok order) s = follow order s
+obeyed (Err refusal) s = Stopped refusal

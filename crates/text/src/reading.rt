@@ -1,48 +1,31 @@
 // A text line by line.
-ghost use Rattle.std.specs.Prelude.{◌≡◌, length};
-ghost use Rattle.memory.specs.Image.{bytes};
-ghost use Rattle.words.specs.Scan.{lines_of};
-ghost use Rattle.rules.specs.Refusals.{longest};
-ghost use Rattle.text.specs.Sheet.{sheet_with};
-ghost use Rattle.text.specs.Meaning.{reading};
-ghost use Rattle.text.specs.Progress.{CameThrough};
+ghost use Rattle.std.specs.Prelude.{◌≡◌};
+ghost use Rattle.text_lines.specs.Faults.{numbered};
+ghost use Rattle.text_lines.specs.Orders.{line_order};
+ghost use Rattle.text.specs.Sheet.{obeyed};
+ghost use Rattle.text.specs.Meaning.{meaning};
+ghost use Rattle.text.specs.Held.{sheet_of, outcome_of, reading_of};
 
-use crate::sheet;
-use crate::sheet::{Progress, Step};
-use words::Stop;
+use crate::Wrong;
+use crate::sheet::Sheet;
+use text_lines::faults::Fault;
 
-#[derive(Clone, Copy)]
-pub enum Read {
-    Whole(Progress),
-    Amiss { line: usize, refusal: u8 },
+#[tactic(auto, unfolding(crate::specs::Sheet::obeyed, crate::specs::Held::outcome_of, text_lines::specs::Faults::numbered))]
+fn obey(sheet: &mut Sheet, line: &[u8]) -> Result<(), Fault>
+    ensures { outcome_of (numbered result) sheet.new ≡ obeyed (line_order line.now) (sheet_of sheet.old) }
+{
+    sheet.follow(text_lines::line_order(line)?)
 }
 
-// The fuse byte of no blown fuse.
-const UNBLOWN: u8 = 7;
-
-pub(crate) fn read_lines(text: &[u8], image: &mut [u8], steps: &mut [u8]) -> Read
-    requires image_len { length image.old ≡ bytes }
-    requires steps_len { length steps.old ≡ longest }
-    ensures { CameThrough (reading 1 (sheet_with image.old) (lines_of text.now)) result image.new steps.new }
+// The sheet that the lines come to, or the first wrong one.
+pub(crate) fn read(text: &[u8]) -> Result<Sheet, Wrong>
+    ensures { reading_of result ≡ meaning text.now }
 {
-    let mut p = Progress {
-        fuses: UNBLOWN,
-        count: 0,
-    };
-    let mut from = 0;
-    let mut line = 1;
-    loop {
-        let rest = &text[from..];
-        let end = words::ahead(Stop::LineEnd, rest);
-        let order = text_lines::line_order(&rest[..end]);
-        match sheet::follow(order, p, image, steps) {
-            Step::On(next) => p = next,
-            Step::Stopped(refusal) => return Read::Amiss { line, refusal },
+    let mut sheet = Sheet::blank();
+    for (k, line) in text.split(|b| *b == b'\n').enumerate() {
+        if let Err(fault) = obey(&mut sheet, line) {
+            return Err(Wrong { line: k + 1, fault });
         }
-        if end == rest.len() {
-            return Read::Whole(p);
-        }
-        from += end + 1;
-        line += 1;
     }
+    Ok(sheet)
 }

@@ -1,30 +1,29 @@
 // What a text has set down so far, order by order.
-ghost use Rattle.std.specs.Prelude.{ℕ, ◌*◌, ◌/◌, ◌%◌, ◌^◌, ◌≤◌, ◌≡◌, List, length};
+ghost use Rattle.std.specs.Prelude.{◌*◌, ◌/◌, ◌%◌, ◌^◌, ◌≤◌, ◌≡◌};
 ghost use Rattle.std.proofs.lemmas.List.Edits.{sets};
-ghost use Rattle.memory.specs.Image.{bytes};
 ghost use Rattle.rules.specs.Refusals.{longest};
-ghost use Rattle.text.specs.Sheet.{bytes_of, present as present_of, driven, follow as follow_of};
-ghost use Rattle.text.specs.Progress.{sheet_of, Came, Changed};
+ghost use Rattle.text.specs.Sheet.{bytes_of, present as present_of};
 
+use text_lines::faults::Fault;
 use text_lines::{Act, Change, Order};
 
-#[derive(Clone, Copy)]
-pub struct Progress {
-    pub fuses: u8,
-    pub count: usize,
-}
+// A byte of ones.
+const ALL_ONES: u8 = 255;
 
-#[derive(Clone, Copy)]
-pub enum Step {
-    On(Progress),
-    Stopped(u8),
-}
-
-// The image and the fuses come before the first step.
-const AFTER_A_STEP: u8 = 74;
+// The fuse byte of no blown fuse.
+const UNBLOWN: u8 = 7;
 
 // The byte of bits 96 to 103.
 const ATTEMPTS: usize = 12;
+
+#[derive(Drop)]
+pub(crate) struct Sheet {
+    pub image: [u8; rules::BYTES],
+    pub fuses: u8,
+    pub steps: [u8; rules::LONGEST],
+    pub count: usize,
+    ghost within: { count ≤ longest },
+}
 
 // Byte k of x, the lowest being byte 0.
 fn byte_of(x: u64, k: usize) -> u8
@@ -37,94 +36,90 @@ fn byte_of(x: u64, k: usize) -> u8
     }
 }
 
+// The last bytes of x, as far as there is room.
 fn put_bytes(x: u64, count: usize, image: &mut [u8], first: usize)
     ensures { image.new ≡ sets image.old first (bytes_of count x) }
 {
-    let mut left = count;
-    let mut at = first;
-    while 0 < left {
-        if image.len() <= at {
-            return;
-        }
-        left -= 1;
-        image[at] = byte_of(x, left);
-        at += 1;
+    let room = image.len().saturating_sub(first);
+    for i in 0..count.min(room) {
+        image[first + i] = byte_of(x, count - 1 - i);
     }
 }
 
-fn change(c: Change, fuses: u8, image: &mut [u8]) -> u8
-    ensures { Changed c fuses image.old result image.new }
-{
-    match c {
-        Change::Fill {
-            first,
-            count,
-            value,
-        } => {
-            memory::fill_part(image, first, count, value);
-            fuses
-        }
-        Change::Bytes {
-            first,
-            count,
-            value,
-        } => {
-            put_bytes(value, count, image, first);
-            fuses
-        }
-        Change::Fuses(n) => n,
-    }
-}
-
-fn arrange(c: Change, p: Progress, image: &mut [u8]) -> Step
-    ensures { (steps : List ℕ) → p.count ≤ length steps → Came (follow_of (Order.Image c) (sheet_of p image.old steps)) result image.new steps }
-{
-    let count = p.count;
-    if count == 0 {
-        let fuses = change(c, p.fuses, image);
-        return Step::On(Progress { fuses, count });
-    }
-    Step::Stopped(AFTER_A_STEP)
-}
-
+// The lines after these steps.
+#[tactic(auto, using(std::proofs::lemmas::Option::gets), unfolding(crate::specs::Sheet::present))]
 fn present(steps: &[u8]) -> u8
     ensures { result ≡ present_of steps.now }
 {
-    let n = steps.len();
-    if n == 0 {
-        return 0;
-    }
-    steps[n - 1]
+    steps.last().copied().unwrap_or(0)
 }
 
-fn drive(act: Act, p: Progress, image: &[u8], steps: &mut [u8]) -> Step
-    requires image_len { length image.now ≡ bytes }
-    requires steps_len { length steps.old ≡ longest }
-    requires count_in_bounds { p.count ≤ length steps.old }
-    ensures { Came (driven act (sheet_of p image.now steps.old)) result image.now steps.new }
-{
-    let count = p.count;
-    let lines = present(&steps[..count]);
-    let made = text_steps::make(act, lines, image[ATTEMPTS], &mut steps[count..]);
-    match made {
-        Ok(n) => Step::On(Progress {
-            fuses: p.fuses,
-            count: count + n,
-        }),
-        Err(fault) => Step::Stopped(fault.number()),
-    }
-}
+impl Sheet {
+    ghost use Rattle.text_lines.specs.Faults.{numbered};
+    ghost use Rattle.text.specs.Sheet.{blank_sheet, changed, driven, follow as follow_of};
+    ghost use Rattle.text.specs.Held.{sheet_of, outcome_of};
 
-pub(crate) fn follow(order: Order, p: Progress, image: &mut [u8], steps: &mut [u8]) -> Step
-    requires image_len { length image.old ≡ bytes }
-    requires steps_len { length steps.old ≡ longest }
-    requires count_in_bounds { p.count ≤ length steps.old }
-    ensures { Came (follow_of order (sheet_of p image.old steps.old)) result image.new steps.new }
-{
-    match order {
-        Order::Nothing => Step::On(p),
-        Order::Image(c) => arrange(c, p, image),
-        Order::Drive(act) => drive(act, p, image, steps),
-        Order::Wrong(refusal) => Step::Stopped(refusal),
+    #[tactic(auto, unfolding(crate::specs::Sheet::blank_sheet, crate::specs::Sheet::sheet_with, crate::specs::Held::sheet_of))]
+    pub(crate) fn blank() -> Sheet
+        ensures { sheet_of result ≡ blank_sheet }
+    {
+        Sheet {
+            image: [ALL_ONES; rules::BYTES],
+            fuses: UNBLOWN,
+            steps: [0; rules::LONGEST],
+            count: 0,
+        }
+    }
+
+    #[tactic(auto, unfolding(crate::specs::Sheet::changed, crate::specs::Sheet::changed_image, crate::specs::Sheet::changed_fuses, crate::specs::Held::sheet_of))]
+    fn change(&mut self, c: Change)
+        ensures { sheet_of self.new ≡ changed c (sheet_of self.old) }
+    {
+        match c {
+            Change::Fill {
+                first,
+                count,
+                value,
+            } => memory::fill_part(&mut self.image, first, count, value),
+            Change::Bytes {
+                first,
+                count,
+                value,
+            } => put_bytes(value, count, &mut self.image, first),
+            Change::Fuses(n) => self.fuses = n,
+        }
+    }
+
+    #[tactic(auto, unfolding(crate::specs::Sheet::follow, crate::specs::Held::outcome_of, text_lines::specs::Faults::numbered))]
+    fn arrange(&mut self, c: Change) -> Result<(), Fault>
+        ensures { outcome_of (numbered result) self.new ≡ follow_of (Order.Image c) (sheet_of self.old) }
+    {
+        if self.count != 0 {
+            return Err(Fault::AfterAStep);
+        }
+        self.change(c);
+        Ok(())
+    }
+
+    fn drive(&mut self, act: Act) -> Result<(), Fault>
+        ensures { outcome_of (numbered result) self.new ≡ driven act (sheet_of self.old) }
+    {
+        let count = self.count;
+        let lines = present(&self.steps[..count]);
+        let attempts = self.image[ATTEMPTS];
+        let made = text_steps::make(act, lines, attempts, &mut self.steps[count..])?;
+        self.count = count + made;
+        Ok(())
+    }
+
+    #[tactic(auto, unfolding(crate::specs::Sheet::follow, crate::specs::Held::outcome_of, text_lines::specs::Faults::numbered))]
+    pub(crate) fn follow(&mut self, order: Order) -> Result<(), Fault>
+        ensures { outcome_of (numbered result) self.new ≡ follow_of order (sheet_of self.old) }
+    {
+        match order {
+            Order::Nothing => Ok(()),
+            Order::Image(c) => self.arrange(c),
+            Order::Drive(act) => self.drive(act),
+        }
     }
 }

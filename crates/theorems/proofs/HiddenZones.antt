@@ -3,12 +3,11 @@ use Prim.Native.Nat.{ℕ, suc, ◌≤◌}
 use mathlib.Core.Path.{◌≡◌, refl, sym, ap, ◌∙◌}
 use mathlib.Core.Bool.{cond}
 use mathlib.Core.List.{List, [], ◌∷◌}
+use Rattle.std.specs.Prelude.{Result, Ok}
 use native.Mathlib.Omega.{arith}
 use lib.Dec.{eqb, ltb}
 use lib.ListN.{length, take, length-take}
 use borrow.Author.Tests.{eqb-true, ltb-false, le-ltb}
-use Rattle.rules.specs.declared.Answer.{Answer}
-use Rattle.rules.specs.declared.Answer.TheVariants.{Pin}
 use Rattle.rules.specs.Halves.{Card, off, fresh}
 use Rattle.rules.specs.Steps.{next, pin}
 use Rattle.rules.specs.Refusals.{refusal, run_refusal, longest}
@@ -88,10 +87,10 @@ module _ (s s' : Card) (start : Alike s s') where
     unfolding answered stepped
     same_answer later later' =
         rw (← refused_alike)
-        (cond_both (◌≡◌ {A = Answer}) (eqb (refusal c.volatile n) 0)
+        (cond_both (◌≡◌ {A = Result ℕ ℕ}) (eqb (refusal c.volatile n) 0)
         (λ t.
         let e = eqb-true (refusal c.volatile n) 0 t in
-        ap Pin (next_pins e (rw e at later) (rw (sym refused_alike ∙ e) at later')))
+        ap Ok (next_pins e (rw e at later) (rw (sym refused_alike ∙ e) at later')))
         (λ _. refl))
 
   record Indistinct (c c' : Card) (ns : List ℕ) : Type 0 where

@@ -137,6 +137,8 @@ module _ (m : List ℕ) (fuses : ℕ) (v : Volatile) where
           rw (ne_eqb a 0 h0, ne_eqb a 104 h104, ne_eqb a 1360 h1360, ne_eqb a 176 e, ne_eqb a 177 d, ne_eqb a 1232 f)
           (comes a 0 (λ t. word) refl refl false)
 
+pub ruleset arrive = (arrive_at_0, arrive_at_104, arrive_at_1360, arrive_elsewhere)
+
 -- The two places where an operation sets a flag lie apart.
 apart : (a : ℕ) → between 96 103 a ≡ true → between 1232 1359 a ≡ false
 apart a e = under 1232 1359 a (omega (arith, bounds 96 103 a e))

@@ -73,3 +73,5 @@ unfolding all digit
 sv_or_r1 x =
     masked_test 3 5 (λ (y : ℕ). not (eqb y 0)) (λ (y : ℕ). digit 0 y || digit 2 y) (omega arith) refl x ∙
     rw (digit_low 3 0 x (omega arith), digit_low 3 2 x (omega arith))
+
+pub ruleset readable = (low_readable, middle_readable, az_readable, high_readable, sv_or_r1)

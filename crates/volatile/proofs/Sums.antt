@@ -13,9 +13,10 @@ use Rattle.rules.specs.Lines.{VCC, RST, PGM, high, place}
 use Rattle.rules.specs.Rights.{Held, held, level1, met, granted, lacking}
 use Rattle.rules.specs.Zones.{between, zone, is_fuse}
 use Rattle.rules.specs.Refusals.{any_set, made_up}
+use Rattle.rules.specs.declared.Operation.TheVariants.{Nothing}
 use Rattle.rules.specs.Halves.{EC_EN, unblown}
 use Rattle.rules.specs.Halves as Halves
-use Rattle.rules.specs.Programming.{asks, may_program, may_program_now}
+use Rattle.rules.specs.Programming.{asks, may_program, effect, operation, may_program_now, operation_now}
 use Rattle.rules.specs.Reason.{missing}
 use Rattle.theorems.proofs.Missing.{asking_law}
 use Rattle.volatile.specs.declared.Volatile.{Volatile}
@@ -167,6 +168,8 @@ module _ (l : ℕ) (rest : Bool) where
       go true false c e = absurd (false≢true e)
       go false b c e = absurd (false≢true e)
 
+pub ruleset lines = (not_ready, ready)
+
 -- The right and the operation, taken apart.
 module _ (fuses : ℕ) (v : Halves.Volatile) where
   -- All that is asked for is there exactly where nothing is missing.
@@ -182,3 +185,8 @@ module _ (fuses : ℕ) (v : Halves.Volatile) where
       may_program_now fuses v ≡ (beq (high RST v.lines) (is_fuse (zone v.address)) && eqb (missing fuses v (zone v.address)) 0)
   unfolding may_program_now may_program
   may_program_by = rw nothing_missing refl
+
+  pub operation_by :
+      operation_now fuses v ≡ cond (may_program_now fuses v) (effect (level1 (held fuses v)) v.latch (zone v.address)) Nothing
+  unfolding operation_now may_program_now operation
+  operation_by = refl

@@ -98,7 +98,7 @@ pub fn pin_value(driven: bool, bit: bool) -> u8
 }
 
 // The flags that come with the arrival at 176, 177 or 1232.
-#[tactic(auto, unfolding(crate::specs::Packed::arrival_flags, rules::specs::Halves::unblown, rules::specs::Halves::fuse_place))]
+#[tactic(auto, unfolding(crate::specs::Packed::arrival_flags, rules::specs::Halves::unblown))]
 fn arrival(image: &[u8], fuses: u8, a: u32, matched: bool) -> u32
     ensures { result ≡ arrival_flags image.now fuses a matched }
 {
@@ -111,7 +111,7 @@ fn arrival(image: &[u8], fuses: u8, a: u32, matched: bool) -> u32
 }
 
 // The flag that comes with a write that turned a 1 into 0 while match held: SV in SCAC, E1 in EC at level 2 with EC_EN unblown.
-#[tactic(auto, unfolding(crate::specs::Packed::opening_flags, rules::specs::Zones::between))]
+#[tactic(auto, unfolding(crate::specs::Packed::opening_flags))]
 fn opening(a: u32, l1: bool, ec_en: bool, keyed: bool) -> u32
     ensures { result ≡ opening_flags a l1 ec_en keyed }
 {
@@ -203,7 +203,7 @@ impl Volatile {
     }
 
     // What arriving at an address does.
-    #[tactic(auto, using(crate::proofs::Edges::arrive_at_0, crate::proofs::Edges::arrive_at_104, crate::proofs::Edges::arrive_at_1360, crate::proofs::Edges::arrive_elsewhere))]
+    #[tactic(auto, using(crate::proofs::Edges::arrive))]
     pub fn arrives(mut self, image: &[u8], fuses: u8, a: u32) -> Self
         ensures { result ≡ packed (arrived image.now fuses a (unpacked self)) }
     {
@@ -230,7 +230,7 @@ impl Volatile {
     }
 
     // Level 1 is FUS high and ISS unblown.
-    #[tactic(auto, unfolding(rules::specs::Rights::level1, rules::specs::Rights::held, crate::specs::Packed::unpacked, rules::specs::Halves::unblown, rules::specs::Halves::fuse_place, rules::specs::Lines::high, rules::specs::Lines::place))]
+    #[tactic(auto, unfolding(rules::specs::Rights::level1, rules::specs::Rights::held, crate::specs::Packed::unpacked, rules::specs::Halves::unblown, rules::specs::Lines::high))]
     pub fn level1(self, fuses: u8) -> bool
         ensures { result ≡ level1 (held fuses (unpacked self)) }
     {
@@ -238,7 +238,7 @@ impl Volatile {
     }
 
     // The things that a right may ask for and that are not there.
-    #[tactic(auto, unfolding(rules::specs::Rights::lacking, rules::specs::Rights::held, crate::specs::Packed::unpacked, rules::specs::Halves::unblown, rules::specs::Halves::fuse_place, rules::specs::Lines::high, rules::specs::Lines::place))]
+    #[tactic(auto, unfolding(rules::specs::Rights::lacking, rules::specs::Rights::held, crate::specs::Packed::unpacked, rules::specs::Halves::unblown, rules::specs::Lines::high))]
     pub fn lacking(self, fuses: u8) -> u8
         ensures { result ≡ lacking (held fuses (unpacked self)) }
     {
@@ -254,7 +254,7 @@ impl Volatile {
     }
 
     // Whether the address may be read. Only SC and EZ have rights that take the table.
-    #[tactic(auto, using(crate::proofs::Readable::low_readable, crate::proofs::Readable::middle_readable, crate::proofs::Readable::az_readable, crate::proofs::Readable::high_readable, crate::proofs::Readable::sv_or_r1), unfolding(rules::specs::Rights::held, crate::specs::Packed::unpacked))]
+    #[tactic(auto, using(crate::proofs::Readable::readable), unfolding(rules::specs::Rights::held, crate::specs::Packed::unpacked))]
     pub fn may_read(self, fuses: u8) -> bool
         ensures { result ≡ may_read (held fuses (unpacked self)) (zone self.address) }
     {
@@ -277,7 +277,7 @@ impl Volatile {
     }
 
     // VCC is on, RST and PGM are low, no programming is under way, and the address may be read.
-    #[tactic(auto, using(crate::proofs::Sums::ready, crate::proofs::Sums::not_ready), unfolding(rules::specs::Steps::driven, crate::specs::Packed::unpacked))]
+    #[tactic(auto, using(crate::proofs::Sums::lines), unfolding(rules::specs::Steps::driven, crate::specs::Packed::unpacked))]
     pub fn driven(self, fuses: u8) -> bool
         ensures { result ≡ driven fuses (unpacked self) }
     {
@@ -296,7 +296,7 @@ impl Volatile {
     }
 
     // The match that the compare at the present address gives.
-    #[tactic(auto, unfolding(crate::specs::Packed::compared_here, rules::specs::Match::compared, crate::specs::Packed::unpacked, rules::specs::Zones::between))]
+    #[tactic(auto, unfolding(crate::specs::Packed::compared_here, rules::specs::Match::compared, crate::specs::Packed::unpacked))]
     pub fn compared(self, image: &[u8], l1: bool) -> bool
         ensures { result ≡ compared_here image.now l1 (unpacked self) }
     {
@@ -316,7 +316,7 @@ impl Volatile {
     }
 
     // Whether the operation is carried out, under the flags and lines of the moment.
-    #[tactic(auto, using(crate::proofs::Sums::may_program_by), unfolding(rules::specs::Lines::high, rules::specs::Lines::place, crate::specs::Packed::unpacked))]
+    #[tactic(auto, using(crate::proofs::Sums::may_program_by), unfolding(rules::specs::Lines::high, crate::specs::Packed::unpacked))]
     pub fn may_program(self, fuses: u8) -> bool
         ensures { result ≡ may_program_now fuses (unpacked self) }
     {
@@ -325,7 +325,7 @@ impl Volatile {
     }
 
     // What the operation asks for in its zone and does not have. A part of both its callers, since a step would pay for the call.
-    #[tactic(auto, unfolding(rules::specs::Reason::missing, crate::specs::Packed::unpacked, rules::specs::Halves::unblown, rules::specs::Halves::fuse_place))]
+    #[tactic(auto, unfolding(rules::specs::Reason::missing, crate::specs::Packed::unpacked, rules::specs::Halves::unblown))]
     #[inline(always)]
     pub fn missing(self, fuses: u8, z: Zone) -> u8
         ensures { result ≡ missing fuses (unpacked self) z }
@@ -337,7 +337,7 @@ impl Volatile {
     }
 
     // The operation that takes effect.
-    #[tactic(auto, unfolding(rules::specs::Programming::operation_now, rules::specs::Programming::operation, rules::specs::Programming::may_program_now, crate::specs::Packed::unpacked))]
+    #[tactic(auto, using(crate::proofs::Sums::operation_by), unfolding(crate::specs::Packed::unpacked))]
     pub fn operation(self, fuses: u8) -> Operation
         ensures { result ≡ operation_now fuses (unpacked self) }
     {

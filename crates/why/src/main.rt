@@ -49,7 +49,7 @@ fn tell_run(out: &mut Standard, ran: Ran, given: usize) {
     out.say(b" of ");
     out.number(given as u64);
     out.say(b"\nrefused ");
-    out.number(ran.refusal as u64);
+    out.number(rules::number_if_any(ran.refusal) as u64);
     out.say(b"\n");
 }
 

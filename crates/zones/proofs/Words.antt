@@ -1,15 +1,13 @@
 -- The zones by words of 16 addresses.
-use Prim.Native.Nat.{ℕ, ◌*◌, ◌/◌, ◌≤◌, ◌<◌}
+use Prim.Native.Nat.{ℕ, ◌*◌, ◌/◌, ◌<◌}
 use native.Mathlib.Omega.{arith}
 use native.Mathlib.Decide.{dec_lt}
 use mathlib.Core.Path.{◌≡◌, refl, sym, ◌∙◌}
 use mathlib.Core.Bool.{Bool, true, false, ◌||◌}
 use lib.Dec.{eqb}
 use borrow.Author.Tests.{eqb-true, ne_eqb}
-use Rattle.memory.proofs.Arms.{Passed, past_passed}
 use Rattle.memory.proofs.Below.{all, below}
 use Rattle.rules.specs.declared.Zone.{Zone}
-use Rattle.rules.specs.declared.Zone.TheVariants.{Gap}
 use Rattle.rules.specs.Zones.{zone, row}
 use Rattle.rules.proofs.PastLast.{past_all}
 use Rattle.rules.proofs.Rows.{row_injective}
@@ -17,11 +15,6 @@ use Rattle.rules.proofs.Rows.{row_injective}
 -- The constant of an arm is the zone of that word's first address.
 pub of_arm : {z : Zone} {w k : ℕ} → w ≡ k → z ≡ zone (16 * k) → z ≡ zone (16 * w)
 of_arm e h = rw e h
-
-pub no_word : (w : ℕ) → Passed 95 w → Gap ≡ zone (16 * w)
-no_word w p =
-    let h : 95 ≤ w = past_passed 95 w p in
-    past_all (16 * w) (omega arith)
 
 -- The first address of an address's word.
 abbrev word_start : ℕ → ℕ

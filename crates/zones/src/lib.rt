@@ -112,7 +112,7 @@ fn of_word(word: u32) -> Zone
 }
 
 // The zone of an address is its word's. 02, W5: "Only the word of 1481 is mixed, so that one bit keeps its test."
-#[tactic(auto, unfolding(rules::specs::Zones::zone, rules::specs::Zones::between))]
+#[tactic(auto, using(crate::proofs::Words::by_word), unfolding(rules::specs::Zones::zone, rules::specs::Zones::between))]
 pub fn zone_of(a: u32) -> Zone
     ensures { result ≡ zone a }
 {

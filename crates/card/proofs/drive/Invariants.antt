@@ -1,5 +1,3 @@
-use Prim.Native.Nat.{◌-◌}
-use lib.ListN.{length}
 use Rattle.volatile.specs.Packed.{given}
 use Rattle.card.proofs.Loop.{Going}
 use Rattle.card.proofs.drive.Given as goal
@@ -7,6 +5,3 @@ use Rattle.card.proofs.drive.Given as goal
 abbrev pub invariant-loop-i : goal.invariant-loop-i
 invariant-loop-i l =
     Going (given l.initial.image l.initial.f l.initial.s) l.steps l.initial.answers (given l.image l.f l.s) l.answers l.p l.i
-
-abbrev pub decreases-loop-i : goal.decreases-loop-i
-decreases-loop-i l = length l.steps - l.i

@@ -1,6 +1,7 @@
-use mathlib.Core.Path.{sym}
+use Rattle.rules.specs.Numbers.{number_in, number_if_any}
 use Rattle.card.proofs.Answers.{run_barred}
 use Rattle.card.proofs.run.Goals as goal
 
-pub returns-then-refusal-ne0 : goal.returns-then-refusal-ne0
-returns-then-refusal-ne0 c = run_barred _ _ _ _ (sym c.run_refusal-refusal.ensures) c.if-refusal-ne0.true
+pub returns-in-Err : goal.returns-in-Err
+unfolding number_in number_if_any
+returns-in-Err c = run_barred _ _ _ _ c.in-Err.ensures

@@ -1,13 +1,13 @@
-use mathlib.Core.Path.{sym, ◌∙◌}
-use Rattle.card.proofs.Answers.{refused_as, pinned_as}
+use mathlib.Core.Path.{sym}
+use Rattle.rules.specs.Numbers.{numbered, number_in}
+use Rattle.card.proofs.Answers.{step_barred}
+use Rattle.card.proofs.WithoutLoop.{quick_told}
 use Rattle.card.proofs.step.Goals as goal
 
-pub returns-then-told-ne0 : goal.returns-then-told-ne0
-returns-then-told-ne0 c =
-    let told = c.step_told-told.ensures in
-    record { card = told.card; answer = rw told.refusal (refused_as _ (rw told.refusal at c.if-told-ne0.true)) }
+pub returns-in-Err : goal.returns-in-Err
+unfolding numbered number_in
+returns-in-Err c = step_barred _ _ _ c.in-Err.ensures
 
-pub returns : goal.returns
-returns c =
-    let told = c.step_told-told.ensures in
-    record { card = told.card; answer = rw told.pin (pinned_as _ _ (sym told.refusal ∙ c.if-told-ne0.false)) }
+pub returns-in-Some : goal.returns-in-Some
+unfolding numbered number_in
+returns-in-Some c = rw c.pin.ensures (quick_told _ _ _ (sym c.in_default.ensures) c.in-Some.ensures)

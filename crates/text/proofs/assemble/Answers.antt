@@ -1,66 +1,34 @@
-use mathlib.Core.Path.{sym}
-use native.Mathlib.Omega.{arith}
-use Rattle.text.specs.Sheet.{blank_sheet}
-use Rattle.text.specs.Meaning.{meaning}
-use Rattle.text.proofs.Answering.{ready, steps_taken, too_long_lem, wrong, no_room_lem, done}
+use Rattle.std.proofs.Common.{◌≡◌, ◌≤◌, rules, arith, length}
+use Rattle.std.proofs.lemmas.Result.{err_from_is_err_and}
+use Rattle.text.specs.Held.{sheet_of, reading_of}
+use Rattle.text.specs.Assembling.{told}
+use Rattle.text.proofs.Answering.{session_length, over_length, amiss, tight, done}
 use Rattle.text.proofs.assemble.Goals as goal
 
 pub returns-then-text-gt-LONGEST_TEXT : goal.returns-then-text-gt-LONGEST_TEXT
-returns-then-text-gt-LONGEST_TEXT c = too_long_lem _ _ c.if-text-gt-LONGEST_TEXT.true
+unfolding told
+returns-then-text-gt-LONGEST_TEXT c = over_length _ _ c.if-text-gt-LONGEST_TEXT.true
 
-pub overflow_add-count : goal.overflow_add-count
-unfolding meaning blank_sheet
-overflow_add-count c =
-    let y =
-    ready c.if-text-gt-LONGEST_TEXT.false c.read_lines-read.ensures c.in-Whole.is
-    c.read_lines-read.auto.image c.read_lines-read.auto.steps in
-    omega (arith, y)
+pub returns-in_err-sheet : goal.returns-in_err-sheet
+unfolding told reading_of
+returns-in_err-sheet c =
+    let p = err_from_is_err_and c.from_residual.result c.from_residual.ensures.1 in
+    rw (p.1, p.2) (amiss _ _ c.if-text-gt-LONGEST_TEXT.false _ _ c.in_err-sheet.ensures)
 
-pub returns-then-out-count : goal.returns-then-out-count
-unfolding meaning blank_sheet
-returns-then-out-count c =
-    let y =
-    ready c.if-text-gt-LONGEST_TEXT.false c.read_lines-read.ensures c.in-Whole.is
-    c.read_lines-read.auto.image c.read_lines-read.auto.steps in
-    no_room_lem y _ c.if-out-count.true
+pub returns-then-out-sheet : goal.returns-then-out-sheet
+unfolding told reading_of
+returns-then-out-sheet c =
+    let s = c.in_ok-sheet.sheet in
+    let image : length s.image ≡ 174 = search rules in
+    let within : s.count ≤ length s.steps = search rules in
+    tight _ _ c.if-text-gt-LONGEST_TEXT.false (sheet_of s) c.in_ok-sheet.ensures
+    (omega (arith, session_length s image within, c.if-out-sheet.true))
 
-pub slice_bounds-steps-end : goal.slice_bounds-steps-end
-unfolding meaning blank_sheet
-slice_bounds-steps-end c =
-    let y =
-    ready c.if-text-gt-LONGEST_TEXT.false c.read_lines-read.ensures c.in-Whole.is
-    c.read_lines-read.auto.image c.read_lines-read.auto.steps in
-    y.within
-
-pub slice_bounds-write-end-in-Whole : goal.slice_bounds-write-end-in-Whole
-unfolding meaning blank_sheet
-slice_bounds-write-end-in-Whole c =
-    let y =
-    ready c.if-text-gt-LONGEST_TEXT.false c.read_lines-read.ensures c.in-Whole.is
-    c.read_lines-read.auto.image c.read_lines-read.auto.steps in
-    sym (steps_taken y)
-
-pub write-requires : goal.write-requires
-unfolding meaning blank_sheet
-write-requires c =
-    let y =
-    ready c.if-text-gt-LONGEST_TEXT.false c.read_lines-read.ensures c.in-Whole.is
-    c.read_lines-read.auto.image c.read_lines-read.auto.steps in
-    record {
-      image_len = y.image_sized;
-      steps_len_bound = omega (arith, steps_taken y, y);
-      steps_in_bounds = omega (arith, steps_taken y, c.if-out-count.false);
-    }
-
-pub returns-in-Amiss : goal.returns-in-Amiss
-unfolding meaning blank_sheet
-returns-in-Amiss c =
-    wrong c.if-text-gt-LONGEST_TEXT.false c.read_lines-read.ensures _ c.in-Amiss.is
-
-pub returns-else-out-count : goal.returns-else-out-count
-unfolding meaning blank_sheet
-returns-else-out-count c =
-    let y =
-    ready c.if-text-gt-LONGEST_TEXT.false c.read_lines-read.ensures c.in-Whole.is
-    c.read_lines-read.auto.image c.read_lines-read.auto.steps in
-    done y _ c.if-out-count.false c.write.ensures
+pub returns : goal.returns
+unfolding told reading_of
+returns c =
+    let s = c.in_ok-sheet.sheet in
+    let image : length s.image ≡ 174 = search rules in
+    let within : s.count ≤ length s.steps = search rules in
+    done _ _ c.if-text-gt-LONGEST_TEXT.false (sheet_of s) c.in_ok-sheet.ensures _ _
+    (omega (arith, session_length s image within, c.if-out-sheet.false)) c.write.ensures

@@ -15,7 +15,7 @@ returns-then-is_set c =
     let t = turned ready _ CLK c.requires.line in
     let vcc = sym c.is_set-2.ensures ∙ c.if-is_set.true in
     let clk = sym c.is_set.ensures ∙ c.if-not-is_set.false in
-    rw (c.known.ensures, c.clock_rises.ensures)
+    rw c.clock_rises.ensures
     (keeps ready _ (clk_rises_lem ready _ t vcc clk) (clk_rises_kept ready _ t vcc clk))
 
 pub returns : goal.returns
@@ -24,4 +24,4 @@ returns c =
     let ready = c.requires.ready in
     let t = turned ready _ CLK c.requires.line in
     let vcc = sym c.is_set-2.ensures ∙ c.if-is_set.false in
-    rw (c.known-2.ensures, c.follows.ensures) (keeps ready _ (clk_unpowered ready _ t vcc) (clk_unpowered_kept ready _ t vcc))
+    rw c.follows.ensures (keeps ready _ (clk_unpowered ready _ t vcc) (clk_unpowered_kept ready _ t vcc))

@@ -18,7 +18,7 @@ returns-then-shows-ne-APART c =
     let t = turned ready _ CLK c.requires.line in
     let down = c.requires.low in
     let shows = c.shows-shows.ensures in
-    rw (c.known.ensures, c.pin_value.ensures, c.goes_on.ensures, c.read_bit-bit.ensures)
+    rw (c.pin_value.ensures, c.goes_on.ensures, c.read_bit-bit.ensures)
     (walks ready _ t down idle c.if-n-eq1.true shows (omega (arith, shows.small, c.if-shows-ne-APART.true)))
 
 pub returns-then-not-is_set : goal.returns-then-not-is_set
@@ -29,7 +29,7 @@ returns-then-not-is_set c =
     let t = turned ready _ CLK c.requires.line in
     let down = c.requires.low in
     let vcc = sym c.is_set.ensures ∙ c.if-not-is_set.true in
-    rw (c.known-then-not-is_set.ensures, c.follows.ensures) (keeps ready _ (clk_unpowered ready _ t vcc) (clk_unpowered_kept ready _ t vcc))
+    rw c.follows.ensures (keeps ready _ (clk_unpowered ready _ t vcc) (clk_unpowered_kept ready _ t vcc))
 
 pub returns-then-is_set : goal.returns-then-is_set
 unfolding high place mask unpacked
@@ -40,7 +40,7 @@ returns-then-is_set c =
     let down = c.requires.low in
     let vcc = sym c.is_set.ensures ∙ c.if-not-is_set.false in
     let rst = sym c.is_set-2.ensures ∙ c.if-is_set.true in
-    rw (c.known-then-is_set.ensures, c.unlatched.ensures, c.is_set-matched.ensures)
+    rw (c.unlatched.ensures, c.is_set-matched.ensures)
     (keeps ready _ (clk_reset ready _ t vcc down idle rst) (clk_reset_kept ready _ t vcc down idle rst))
 
 pub clock_counts-requires : goal.clock_counts-requires

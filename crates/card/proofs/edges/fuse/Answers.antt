@@ -2,18 +2,17 @@ use mathlib.Core.Path.{sym, ◌∙◌}
 use Rattle.rules.specs.Lines.{FUS, high, place, mask}
 use Rattle.volatile.specs.Packed.{unpacked}
 use Rattle.edge_laws.proofs.ByLine.{turned, fus_refused, fus_goes, reads}
-use borrow.Author.Rules.{rules}
+use Rattle.rules.specs.Numbers.{number}
 use Rattle.card.proofs.edges.fuse.Goals as goal
 
 pub returns-then-is_set : goal.returns-then-is_set
-unfolding high place mask unpacked
+unfolding number high place mask unpacked
 returns-then-is_set c =
     let ready = c.requires.ready in
-    rw c.refused.ensures
-    (fus_refused ready _ (turned ready _ FUS c.requires.line) (sym c.is_set.ensures ∙ c.if-is_set.true))
+    fus_refused ready _ (turned ready _ FUS c.requires.line) (sym c.is_set.ensures ∙ c.if-is_set.true)
 
 pub returns : goal.returns
-unfolding high place mask unpacked
+unfolding number high place mask unpacked
 returns c =
     let ready = c.requires.ready in
     rw (c.read.ensures, c.follows.ensures)

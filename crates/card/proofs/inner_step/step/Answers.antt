@@ -4,7 +4,6 @@ use Rattle.edge_laws.proofs.LineMasks.{both}
 use Rattle.rules.specs.Lines.{VCC, place, mask}
 use Rattle.volatile.specs.Packed.{unpacked}
 use Rattle.edge_laws.proofs.ByLine.{turned, power_cut}
-use borrow.Author.Rules.{rules}
 use Rattle.card.proofs.inner_step.step.Goals as goal
 
 pub clock-requires : goal.clock-requires
@@ -27,4 +26,4 @@ returns-then-d-is_set c =
     rw c.power.ensures (power_cut ready _ (turned ready _ VCC (eqb-true _ 1 two.0)) programming)
 
 pub returns : goal.returns
-returns c = rw c.with_fuses-2.ensures c.other_than_clock.ensures
+returns c = rw c.with_fuses-2.ensures c.in_ok-other_than_clock.ensures

@@ -1,7 +1,6 @@
 use Rattle.rules.specs.Lines.{place, mask}
 use Rattle.card.specs.Moves.{QuickTo}
 use Rattle.card.proofs.WithoutLoop.{fus_quick, rst_rises_quick, rst_falls_quick}
-use borrow.Author.Rules.{rules}
 use Rattle.card.proofs.quick.idle.Goals as goal
 
 pub returns-then-d-eq32 : goal.returns-then-d-eq32
