@@ -2,11 +2,12 @@
 #![tactic(auto)]
 
 ghost use Rattle.std.specs.Prelude.{◌≡◌, ◌↔◌, IsTrue};
-ghost use Rattle.memory.specs.Buffer.{Put};
+ghost use Rattle.memory.specs.Filled.{Filled};
 ghost use Rattle.decimal.specs.Decimal.{decimal};
 ghost use Rattle.console.specs.Told.{told_line, Told, InputTold, StartTold, StopTold, EndTold};
 ghost use Rattle.console.specs.Ends.{Taken, Consumed, NotLost, Said, AsFarAs, Written, stopped, ended};
 
+use memory::lent::Filling;
 use std::env::FillError;
 use std::io;
 use std::io::{Stderr, Stdout};
@@ -47,14 +48,14 @@ pub struct Console<W, E> {
 pub type Standard = Console<Stdout, Stderr>;
 
 // `PROGRAM: what which`, a line.
-fn put_told(out: &mut [u8], program: &[u8], what: &[u8], which: &[u8]) -> usize
-    ensures { Put out.old 0 (told_line program.now what.now which.now) result out.new }
+fn put_told(to: &mut Filling, program: &[u8], what: &[u8], which: &[u8])
+    ensures { Filled to.old (told_line program.now what.now which.now) to.new }
 {
-    let after_program = memory::put(out, 0, program);
-    let after_colon = memory::put(out, after_program, b": ");
-    let after_what = memory::put(out, after_colon, what);
-    let after_which = memory::put(out, after_what, which);
-    memory::put(out, after_which, b"\n")
+    to.put(program);
+    to.put(b": ");
+    to.put(what);
+    to.put(which);
+    to.put(b"\n");
 }
 
 // Writes the whole text, or a front of it. `write_all` doesn't say what is written where it fails.
@@ -76,8 +77,9 @@ fn tell<E: io::Write>(errors: &mut E, program: &[u8], what: &[u8], which: &[u8])
     ensures { Told (E.contents errors.old) (E.contents errors.new) (told_line program.now what.now which.now) }
 {
     let mut line = [0u8; 80];
-    let n = put_told(&mut line, program, what, which);
-    let _ = write_whole(errors, &line[..n]);
+    let mut to = Filling::of(&mut line);
+    put_told(&mut to, program, what, which);
+    let _ = write_whole(errors, to.so_far());
 }
 
 // Reads until the buffer is full or the input ends.
@@ -165,8 +167,9 @@ impl<W: io::Write, E: io::Write> Console<W, E> {
         ensures kept { self.new ≡ record self.old { to = self.new.to; output = self.new.output } }
     {
         let mut digits = [0u8; 20];
-        let k = decimal::put_decimal(&mut digits, 0, n as usize);
-        self.say(&digits[..k])
+        let mut to = Filling::of(&mut digits);
+        decimal::put_decimal(&mut to, n as usize);
+        self.say(to.so_far());
     }
 
     // Tells why the program stops, unless it stopped before or the output is lost, which `end` tells.

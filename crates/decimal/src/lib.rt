@@ -2,8 +2,10 @@
 #![tactic(auto)]
 
 ghost use Rattle.std.specs.Prelude.{◌≡◌, ◌∷◌, [], ◌≤◌, length};
-ghost use Rattle.memory.specs.Buffer.{Put};
+ghost use Rattle.memory.specs.Filled.{Filled};
 ghost use Rattle.decimal.specs.Decimal.{digit, decimal};
+
+use memory::lent::Filling;
 
 // How many digits x has: one for 0 too.
 #[tactic(auto, using(crate::proofs::Digits::by_powers))]
@@ -15,21 +17,21 @@ pub fn places(x: usize) -> usize
 
 // The last decimal digit of x.
 #[tactic(auto, unfolding(crate::specs::Decimal::digit))]
-pub fn put_digit(out: &mut [u8], at: usize, x: usize) -> usize
-    ensures { Put out.old at (digit x ∷ []) result out.new }
+pub fn put_digit(to: &mut Filling, x: usize)
+    ensures { Filled to.old (digit x ∷ []) to.new }
 {
-    memory::put(out, at, &[b'0' + (x % 10) as u8])
+    to.put(&[b'0' + (x % 10) as u8]);
 }
 
 #[tactic(auto, using(crate::proofs::Digits::one_digit))]
-pub fn put_decimal(out: &mut [u8], at: usize, x: usize) -> usize
-    ensures { Put out.old at (decimal x) result out.new }
+pub fn put_decimal(to: &mut Filling, x: usize)
+    ensures { Filled to.old (decimal x) to.new }
 {
     if x < 10 {
-        return put_digit(out, at, x);
+        return put_digit(to, x);
     }
     let front = x / 10;
     let last = x % 10;
-    let next = put_decimal(out, at, front);
-    put_digit(out, next, last)
+    put_decimal(to, front);
+    put_digit(to, last);
 }

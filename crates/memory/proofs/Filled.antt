@@ -1,10 +1,12 @@
 -- Bytes put one behind the other in a lent buffer that is filled from its start on.
-use Prim.Native.Nat.{ℕ}
+use Prim.Native.Nat.{ℕ, ◌≤◌}
 use mathlib.Core.Path.{◌≡◌, refl, ◌∙◌}
 use mathlib.Core.List.{List, [], ◌++◌, append_assoc}
+use lib.ListN.{length, take}
 use Rattle.memory.specs.declared.lent.Filling.{Filling}
+use Rattle.memory.specs.Buffer.{Put}
 use Rattle.memory.specs.Filled.{Filled}
-use Rattle.memory.proofs.Buffer.{then, nothing_put}
+use Rattle.memory.proofs.Buffer.{then, nothing_put, read_back}
 use Rattle.memory.proofs.Determined.{put_determined}
 
 pub nothing_filled : (t : Filling) → Filled t [] t
@@ -29,6 +31,15 @@ module _ {t u v : Filling} {all rest : List ℕ} where
   -- What is left is put at once.
   pub ended : Underway t all rest u → Filled u rest v → Filled t all v
   ended w p = rw w.split at (then_filled w.filled p)
+
+-- What fills a buffer from its start on.
+module _ {t u : Filling} {bytes before : List ℕ} (f : Filled t bytes u) (lent : t.out.now ≡ before) (start : t.at ≡ 0) where
+  pub put_at_start : Put before 0 bytes u.at u.out.now
+  put_at_start = rw (lent, start) at f.put
+
+  -- Where there is room for it, it is all so far.
+  pub so_far : length bytes ≤ length before → take u.at u.out.now ≡ bytes
+  so_far h = read_back h put_at_start
 
 -- Two answers that this allows coincide.
 pub filled_determined :

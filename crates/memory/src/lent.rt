@@ -1,5 +1,5 @@
 // A lent buffer that is filled from its start on.
-ghost use Rattle.std.specs.Prelude.{◌≡◌};
+ghost use Rattle.std.specs.Prelude.{◌≡◌, take};
 ghost use Rattle.memory.specs.Filled.{Filled};
 
 // `at` is the place behind the bytes so far.
@@ -23,5 +23,13 @@ impl<'a> Filling<'a> {
         ensures { Filled self.old bytes.now self.new }
     {
         self.at = crate::put(self.out, self.at, bytes);
+    }
+
+    // The bytes so far.
+    pub fn so_far(&self) -> &[u8]
+        ensures { result.now ≡ take self.now.at self.now.out.now }
+    {
+        let end = self.at.min(self.out.len());
+        &self.out[..end]
     }
 }

@@ -3,6 +3,7 @@
 #![tactic(auto)]
 
 use console::{Console, Standard, Unreadable};
+use memory::lent::Filling;
 use std::io;
 
 const MOST: usize = 10000;
@@ -79,8 +80,9 @@ fn next_record<R: io::Read>(from: &mut R) -> Result<Option<bool>, Fault> {
 
 fn stop(out: &mut Standard, fault: Fault, nth: usize) {
     let mut digits = [0u8; 20];
-    let k = decimal::put_decimal(&mut digits, 0, nth);
-    let nth = &digits[..k];
+    let mut to = Filling::of(&mut digits);
+    decimal::put_decimal(&mut to, nth);
+    let nth = to.so_far();
     match fault {
         Fault::Unreadable => out.stop(b"standard input cannot be read", b""),
         Fault::Cut => out.stop(b"the input ends in record ", nth),

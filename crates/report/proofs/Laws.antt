@@ -7,8 +7,11 @@ use mathlib.Core.List.{List}
 use lib.Dec.{ltb}
 use lib.ListN.{length}
 use borrow.Author.Tests.{lt-ltb, le-ltb, ltb-false}
+use Rattle.memory.specs.declared.lent.Filling.{Filling}
 use Rattle.memory.specs.Buffer.{Put}
+use Rattle.memory.specs.Filled.{Filled}
 use Rattle.memory.proofs.Buffer.{at_start}
+use Rattle.memory.proofs.Filled.{put_at_start}
 use Rattle.std.specs.Prelude.{Option, Some, None}
 use Rattle.report.specs.Buffer.{told, held, Made, Enough}
 
@@ -23,6 +26,12 @@ made {text} {before} e h p =
       answered = rw (le-ltb (length before) (length text) fits);
       lent = at_start fits p;
     }
+
+-- By what fills the buffer from its start on, `o` being what the buffer then holds.
+pub filled :
+    {text before o : List ℕ} {t u : Filling} {n : ℕ} → n ≡ length text → n ≤ length before → t.out.now ≡ before → t.at ≡ 0 →
+    Filled t text u → o ≡ u.out.now → Made text before (Some n) o
+filled e h lent start f d = rw d (made e h (put_at_start f lent start))
 
 pub too_small : {text before : List ℕ} → length before < length text → Made text before None before
 unfolding told held

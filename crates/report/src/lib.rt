@@ -2,12 +2,15 @@
 #![tactic(auto)]
 
 ghost use Rattle.std.specs.Prelude.{◌≡◌, ◌++◌, length, take};
-ghost use Rattle.memory.specs.Buffer.{Put};
+ghost use Rattle.memory.specs.Filled.{Filled};
 ghost use Rattle.report.specs.Lines.{done_word, of_word, refused_word, numbered, line, answers_line, bad_text};
 ghost use Rattle.report.specs.Told.{lines_of};
 ghost use Rattle.report.specs.Buffer.{Made};
 
 use decimal::places;
+use memory::lent::Filling;
+
+const NEWLINE: &[u8] = b"\n";
 
 // What the four lines tell of a run: that it did `done` of the steps given. Of the answers the first `done` are told, all of them if there
 // are fewer.
@@ -21,28 +24,27 @@ pub struct Run<'a> {
 }
 
 // A word and a number behind it.
-pub fn put_number(out: &mut [u8], at: usize, word: &[u8], x: usize) -> usize
-    ensures { Put out.old at (numbered word.now x) result out.new }
+pub fn put_number(to: &mut Filling, word: &[u8], x: usize)
+    ensures { Filled to.old (numbered word.now x) to.new }
 {
-    let next = memory::put(out, at, word);
-    decimal::put_decimal(out, next, x)
+    to.put(word);
+    decimal::put_decimal(to, x);
 }
 
-fn put_line(out: &mut [u8], at: usize, word: &[u8], x: usize) -> usize
-    ensures { Put out.old at (line word.now x) result out.new }
+fn put_line(to: &mut Filling, word: &[u8], x: usize)
+    ensures { Filled to.old (line word.now x) to.new }
 {
-    let end = put_number(out, at, word, x);
-    memory::put(out, end, b"\n")
+    put_number(to, word, x);
+    to.put(NEWLINE);
 }
 
-fn put_answers(out: &mut [u8], at: usize, answers: &[u8]) -> usize
-    ensures { Put out.old at (answers_line answers.now) result out.new }
+fn put_answers(to: &mut Filling, answers: &[u8])
+    ensures { Filled to.old (answers_line answers.now) to.new }
 {
-    let mut next = at;
     for &a in answers {
-        next = decimal::put_digit(out, next, a as usize);
+        decimal::put_digit(to, a as usize);
     }
-    memory::put(out, next, b"\n")
+    to.put(NEWLINE);
 }
 
 // `bad N`, a line: how many bytes it has, or none of them is written for want of room.
@@ -54,7 +56,7 @@ pub fn bad(refusal: u8, out: &mut [u8]) -> Option<usize>
     if out.len() < total {
         return None;
     }
-    put_line(out, 0, b"bad ", n);
+    put_line(&mut Filling::of(out), b"bad ", n);
     Some(total)
 }
 
@@ -78,20 +80,20 @@ impl<'a> Run<'a> {
     }
 
     // The lines before the answers.
-    fn put_counts(&self, out: &mut [u8]) -> usize
-        ensures { Put out.old 0 (numbered done_word self.now.done ++ (line of_word self.now.given ++ line refused_word self.now.refusal)) result out.new }
+    fn put_counts(&self, to: &mut Filling)
+        ensures { Filled to.old (numbered done_word self.now.done ++ (line of_word self.now.given ++ line refused_word self.now.refusal)) to.new }
     {
-        let after_done = put_number(out, 0, b"done ", self.done);
-        let after_given = put_line(out, after_done, b" of ", self.given);
-        put_line(out, after_given, b"refused ", self.refusal as usize)
+        put_number(to, b"done ", self.done);
+        put_line(to, b" of ", self.given);
+        put_line(to, b"refused ", self.refusal as usize);
     }
 
-    fn put(&self, out: &mut [u8]) -> usize
-        ensures { Put out.old 0 (lines_of self.now) result out.new }
+    fn put(&self, to: &mut Filling)
+        ensures { Filled to.old (lines_of self.now) to.new }
     {
-        let after_refused = self.put_counts(out);
-        let after_answers = put_answers(out, after_refused, self.told_answers());
-        put_line(out, after_answers, b"left ", self.left as usize)
+        self.put_counts(to);
+        put_answers(to, self.told_answers());
+        put_line(to, b"left ", self.left as usize);
     }
 
     // The four lines: how many bytes they have, or none of them is written for want of room.
@@ -102,7 +104,7 @@ impl<'a> Run<'a> {
         if out.len() < all {
             return None;
         }
-        self.put(out);
+        self.put(&mut Filling::of(out));
         Some(all)
     }
 }

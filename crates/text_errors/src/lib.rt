@@ -2,9 +2,11 @@
 #![tactic(auto)]
 
 ghost use Rattle.std.specs.Prelude.{◌≡◌, length};
-ghost use Rattle.memory.specs.Buffer.{Put};
+ghost use Rattle.memory.specs.Filled.{Filled};
 ghost use Rattle.report.specs.Buffer.{Made, Enough};
 ghost use Rattle.text_errors.specs.ErrorLine.{words, error_line, enough};
+
+use memory::lent::Filling;
 
 // The words of a refusal, and some for one that has no row.
 fn words_of(refusal: u8) -> &'static [u8]
@@ -25,14 +27,14 @@ fn words_of(refusal: u8) -> &'static [u8]
     }
 }
 
-fn put_line(out: &mut [u8], line: usize, refusal: u8) -> usize
-    ensures { Put out.old 0 (error_line line refusal) result out.new }
+fn put_line(to: &mut Filling, line: usize, refusal: u8)
+    ensures { Filled to.old (error_line line refusal) to.new }
 {
-    let after_line = report::put_number(out, 0, b"line ", line);
-    let before_words = memory::put(out, after_line, b": ");
-    let after_words = memory::put(out, before_words, words_of(refusal));
-    let after_number = report::put_number(out, after_words, b" (", refusal as usize);
-    memory::put(out, after_number, b")\n")
+    report::put_number(to, b"line ", line);
+    to.put(b": ");
+    to.put(words_of(refusal));
+    report::put_number(to, b" (", refusal as usize);
+    to.put(b")\n");
 }
 
 // `line N: words (number)`. 84 bytes hold every such line.
@@ -41,10 +43,11 @@ pub fn error_line(line: usize, refusal: u8, out: &mut [u8]) -> Option<usize>
     ensures enough { Enough enough (length out.old) result }
 {
     let mut text = [0u8; 84];
-    let n = put_line(&mut text, line, refusal);
-    if out.len() < n {
+    let mut to = Filling::of(&mut text);
+    put_line(&mut to, line, refusal);
+    let said = to.so_far();
+    if out.len() < said.len() {
         return None;
     }
-    memory::put(out, 0, &text[..n]);
-    Some(n)
+    Some(memory::put(out, 0, said))
 }

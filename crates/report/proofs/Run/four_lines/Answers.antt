@@ -1,5 +1,6 @@
 use native.Mathlib.Omega.{arith}
-use Rattle.report.proofs.Laws.{made, too_small}
+use Rattle.std.proofs.Common.{rules}
+use Rattle.report.proofs.Laws.{filled, too_small}
 use Rattle.report.proofs.Run.four_lines.Goals as goal
 
 pub returns-then-out-all : goal.returns-then-out-all
@@ -7,4 +8,5 @@ returns-then-out-all c = too_small (omega arith)
 
 pub returns : goal.returns
 returns c =
-    made c.length-all.ensures c.if-out-all.false c.put.ensures
+    let to = c.of.ensures in
+    filled c.length-all.ensures c.if-out-all.false to.bytes to.start c.put.ensures (search rules)
