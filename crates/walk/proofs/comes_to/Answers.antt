@@ -8,7 +8,6 @@ use Rattle.walk.proofs.comes_to.Goals as goal
 pub returns-then-shows-eq-APART : goal.returns-then-shows-eq-APART
 returns-then-shows-eq-APART c =
     rw (
-      c.none.ensures,
       ← comes_there c.args.v c.args.n,
       ← c.clocks-next.ensures,
       c.shows-shows.ensures.plain,
