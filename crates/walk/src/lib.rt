@@ -46,14 +46,11 @@ fn comes_to(v: Volatile, image: &[u8], fuses: u8, n: u32) -> Option<Walked>
     ensures { result ≡ cond (plain_at (walked_to v.address n)) (walk_to (next (card_of (given image.now fuses v)) n)) None }
 {
     let next = clocks(v, n);
-    let shows = shown::shows(next.address, next.flags);
-    if shows == shown::APART {
-        return None;
-    }
+    let shown = shown::shows(next.address, next.flags)?;
     let bit = memory::read_bit(image, next.address as usize);
     Some(Walked {
         volatile: next,
-        pin: volatile::pin_value(shows == shown::BIT, bit),
+        pin: volatile::pin_value(shown, bit),
     })
 }
 
