@@ -18,7 +18,8 @@ use Rattle.text.proofs.Sections.{length_session}
 use Rattle.text.proofs.Opening.{opened}
 
 -- The length of the session of the sheet that is held.
-pub session_length : (s : Held) → length s.image ≡ bytes → s.count ≤ length s.steps → length (session (sheet_of s)) ≡ steps_at + s.count
+pub session_length :
+    (s : Held) → length s.image ≡ bytes → s.count ≤ length s.steps → length (session (sheet_of s)) ≡ steps_at + s.count
 unfolding session sheet_of
 session_length s i h = omega (arith, length_session s.image s.fuses (take s.count s.steps), length-take-le s.count s.steps h, i)
 
