@@ -9,7 +9,6 @@ use lib.Dec.{eqb, ltb}
 use lib.ListN.{length, get_or, set, take, drop, length-set, take-append-drop, drop_of_length-le}
 use lib.Seq.{drop-cons, take-suc, take-suc-set, drop-set-lt, drop-drop, length-take-le}
 use borrow.Author.Tests.{eqb-true, ne_eqb, le-ltb, ltb-false}
-use Rattle.memory.specs.Image.{bytes}
 use Rattle.rules.specs.Halves as Halves
 use Rattle.rules.specs.Halves.{Card}
 use Rattle.rules.specs.Refusals.{refusal, made_up}
@@ -86,7 +85,6 @@ room_at g steps room e =
 -- Before step i: the card so far is ready, and the run of the steps so far has given the answers so far.
 pub record Going (start : Given) (steps answers₀ : List ℕ) (g : Given) (answers : List ℕ) (p i : ℕ) : Type 0 where
   pub fits : given_run_refusal start (length steps) (length answers₀) ≡ 0
-  pub start_sized : length start.memory ≡ bytes
   pub room : length steps ≤ length answers₀
   pub ready : Ready g p
   pub within : i ≤ length steps
@@ -103,7 +101,6 @@ module _ (start : Given) (steps answers₀ : List ℕ) where
       let ready = ready_at start p (sound_at_lem start (length steps) (length answers₀) fits) e in
       record {
         fits = fits;
-        start_sized = ready.sized;
         room = room_at start (length steps) (length answers₀) fits;
         ready = ready;
         within = omega arith;
@@ -113,9 +110,6 @@ module _ (start : Given) (steps answers₀ : List ℕ) where
       }
 
 module _ {start g : Given} {steps answers₀ answers : List ℕ} {p i : ℕ} (going : Going start steps answers₀ g answers p i) where
-  pub same_image : length g.memory ≡ length start.memory
-  same_image = going.ready.sized ∙ sym going.start_sized
-
   -- The whole run is the answers so far and the run of what is left.
   whole : run (card_of start) steps ≡ behind (take i answers) (run (card_of g) (drop i steps))
   whole =
@@ -161,7 +155,6 @@ module _ {start g : Given} {steps answers₀ answers : List ℕ} {p i : ℕ} (go
         rw (add-one i)
         (record {
           fits = going.fits;
-          start_sized = going.start_sized;
           room = going.room;
           ready = ready_after steps-to z going.ready;
           within = h;

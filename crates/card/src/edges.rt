@@ -46,15 +46,14 @@ pub(crate) fn clock_falls(v: Volatile, image: &[u8], fuses: u8, pin: u8, n: u32)
     ensures { Moves (given image.now fuses v) pin n (Ok result) }
 {
     let a = v.address + 1;
-    if n & masks::VCC_RST_PGM == 1 {
-        let shows = shown::shows(a, v.flags);
-        if shows != shown::APART {
-            let bit = memory::read_bit(image, a as usize);
-            return Moved {
-                volatile: v.goes_on(n, a),
-                pin: volatile::pin_value(shows == shown::BIT, bit),
-            };
-        }
+    if n & masks::VCC_RST_PGM == 1
+        && let Some(shown) = shown::shows(a, v.flags)
+    {
+        let bit = memory::read_bit(image, a as usize);
+        return Moved {
+            volatile: v.goes_on(n, a),
+            pin: volatile::pin_value(shown, bit),
+        };
     }
     if !is_set(n, volatile::VCC) {
         return Moved {

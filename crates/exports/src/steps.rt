@@ -99,11 +99,10 @@ fn any_step(image: &mut [u8], fuses: u8, v: Volatile, n: u8) -> ZhavStepped
 fn step(image: &mut [u8], fuses: u8, v: Volatile, n: u8) -> ZhavStepped
     ensures { StepTold (given image.old fuses v) n (given image.new result.fuses result.half) result.answer result.refusal }
 {
-    let w = walk::step(image, fuses, v, n);
-    if w.pin != walk::NO_WALK {
-        return of_walk(w, fuses);
+    match walk::step(image, fuses, v, n) {
+        Some(walked) => of_walk(walked, fuses),
+        None => any_step(image, fuses, v, n),
     }
-    any_step(image, fuses, v, n)
 }
 
 #[unsafe(no_mangle)]

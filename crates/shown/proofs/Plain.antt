@@ -2,14 +2,14 @@
 use Prim.Native.Nat.{ℕ, ◌+◌, ◌-◌, ◌≤◌, ◌<◌}
 use native.Mathlib.Omega.{arith}
 use native.Mathlib.Decide.{dec_lt}
-use mathlib.Core.Path.{◌≡◌, refl, sym, ◌∙◌}
+use mathlib.Core.Path.{◌≡◌, refl, sym, ap, ◌∙◌}
 use mathlib.Core.Bool.{Bool, true, false, not, ◌||◌, beq, false≢true}
-use lib.Dec.{eqb, ltb}
+use lib.Dec.{eqb}
+use Rattle.std.specs.Prelude.{Option, Some, None}
 use lib.Bits.{bit_and}
-use borrow.Author.Tests.{eqb-true, eqb-false, ne_eqb, ltb-true, lt-ltb, le-ltb, not-true}
+use borrow.Author.Tests.{ne_eqb, le-ltb, not-true}
 use Rattle.memory.specs.Image.{digit, bit}
 use Rattle.memory.proofs.Below.{all, below}
-use Rattle.rules.specs.Halves as Halves
 use Rattle.rules.specs.Zones.{between, zone}
 use Rattle.rules.specs.Rights.{Held, held, level1, may_read}
 use Rattle.rules.specs.Match.{compared, following, ends_match, arrived}
@@ -18,7 +18,7 @@ use Rattle.theorems.proofs.Tests.{beq_true, below_then, neither_left, neither_ri
 use Rattle.volatile.specs.Packed.{unpacked, Given, card_of, gone_on}
 use Rattle.volatile.proofs.Between.{over}
 use Rattle.volatile.proofs.Readable.{az_readable, sv_or_r1}
-use Rattle.shown.specs.Shown.{plain_at, Shows}
+use Rattle.shown.specs.Shown.{plain_at, Reads, Shows}
 
 -- A test of the addresses holds at all of `count` from `low` on, by one computed test.
 over_range :
@@ -37,20 +37,14 @@ past_last a h =
 
 -- What the pin shows, by the rights to read.
 module _ (a flags : ℕ) where
-  pub no_walk : plain_at a ≡ false → Shows a flags 2
-  no_walk e = record { plain = e; small = omega arith; read = λ k. absurd (omega arith) }
-
   -- Around the address, by one computed test.
   module _ (low count : ℕ) where
-    pub no_walk_in : all count (λ (k : ℕ). beq (plain_at (low + k)) false) ≡ true → low ≤ a → a < low + count → Shows a flags 2
-    no_walk_in e h k = no_walk (over_range low count false e a h k)
+    pub no_walk_in : all count (λ (k : ℕ). beq (plain_at (low + k)) false) ≡ true → low ≤ a → a < low + count → plain_at a ≡ false
+    no_walk_in e h k = over_range low count false e a h k
 
     module _ (e : all count (λ (k : ℕ). beq (plain_at (low + k)) true) ≡ true) (h : low ≤ a) (k : a < low + count) where
-      pub shown : ((h : Held) → may_read h (zone a) ≡ true) → Shows a flags 1
-      shown f = record { plain = over_range low count true e a h k; small = omega arith; read = λ _ fuses v _ _. f (held fuses v) }
-
-      pub not_shown : ((h : Held) → may_read h (zone a) ≡ false) → Shows a flags 0
-      not_shown f = record { plain = over_range low count true e a h k; small = omega arith; read = λ _ fuses v _ _. f (held fuses v) }
+      pub shown : {bit : Bool} → ((h : Held) → may_read h (zone a) ≡ bit) → Reads a flags bit
+      shown f = record { plain = over_range low count true e a h k; read = λ fuses v _ _. f (held fuses v) }
 
   -- AZ is read with SV or R1.
   module _ (low : 178 ≤ a) (top : a < 1199) where
@@ -58,46 +52,25 @@ module _ (a flags : ℕ) where
     unfolding all plain_at between
     in_az = over_range 178 1021 true refl a low (omega arith)
 
-    az : {r : ℕ} → r < 2 → not (eqb (bit_and flags 5) 0) ≡ eqb r 1 → Shows a flags r
+    pub az_shown : Reads a flags (not (eqb (bit_and flags 5) 0))
     unfolding held
-    az {r} less e =
+    az_shown =
         record {
-          plain = in_az ∙ sym (lt-ltb r 2 less);
-          small = omega arith;
+          plain = in_az;
           read =
-              λ _ fuses v sv r1.
-              rw (az_readable (held fuses v) a (omega arith) (omega arith), sv, r1) (sym (sv_or_r1 flags) ∙ e);
+              λ fuses v sv r1.
+              rw (az_readable (held fuses v) a (omega arith) (omega arith), sv, r1) (sym (sv_or_r1 flags));
         }
 
-    pub az_shown : (bit_and flags 5 ≡ 0 → ⊥) → Shows a flags 1
-    az_shown h = az (omega arith) (rw (ne_eqb (bit_and flags 5) 0 h))
-
-    pub az_not_shown : bit_and flags 5 ≡ 0 → Shows a flags 0
-    az_not_shown h = az (omega arith) (rw h)
-
 -- Demand 1: one answer alone tells what the pin shows.
-by_ones : (r r' : ℕ) → r < 2 → r' < 2 → eqb r 1 ≡ eqb r' 1 → r ≡ r'
-by_ones r r' h h' e = go (eqb r 1) refl
-  where
-    go : (t : Bool) → eqb r 1 ≡ t → r ≡ r'
-    go true q = omega (arith, eqb-true r 1 q, eqb-true r' 1 (sym e ∙ q))
-    go false q = omega (arith, eqb-false r 1 q, eqb-false r' 1 (sym e ∙ q))
-
-pub shows_determined : {a flags r r' : ℕ} → Shows a flags r → Shows a flags r' → r ≡ r'
+pub shows_determined : (a flags : ℕ) (r r' : Option Bool) → Shows a flags r → Shows a flags r' → r ≡ r'
 unfolding unpacked
-shows_determined {a} {flags} {r} {r'} p q = go (dec_lt r 2) (dec_lt r' 2)
-  where
-    some : Halves.Volatile
-    some = unpacked (record { lines = 0; address = a; flags = flags })
-
-    same : ltb r 2 ≡ ltb r' 2
-    same = sym p.plain ∙ q.plain
-
-    go : Dec (r < 2) → Dec (r' < 2) → r ≡ r'
-    go (yes h) (yes h') = by_ones r r' h h' (sym (p.read h 0 some refl refl) ∙ q.read h' 0 some refl refl)
-    go (yes h) (no h') = absurd (h' (ltb-true r' 2 (sym same ∙ lt-ltb r 2 h)))
-    go (no h) (yes h') = absurd (h (ltb-true r 2 (same ∙ lt-ltb r' 2 h')))
-    go (no h) (no h') = omega (arith, p.small, q.small)
+shows_determined a flags (Some b) (Some b') p q =
+    let some = unpacked (record { lines = 0; address = a; flags = flags }) in
+    ap Some (sym (p.read 0 some refl refl) ∙ q.read 0 some refl refl)
+shows_determined a flags (Some b) None p q = absurd (false≢true (sym q ∙ p.plain))
+shows_determined a flags None (Some b) p q = absurd (false≢true (sym p ∙ q.plain))
+shows_determined a flags None None p q = refl
 
 -- An address that a walk comes to is none at which something comes of the arrival, and the one before it is none that is compared.
 unfoldable quiet_from : ℕ → Bool

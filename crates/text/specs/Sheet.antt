@@ -1,5 +1,6 @@
 -- What a text has set down so far, and what an order adds to it.
-use Rattle.std.specs.Prelude.{ℕ, zero, suc, ◌-◌, ◌*◌, ◌/◌, ◌%◌, ◌^◌, cond, List, [], ◌∷◌, ◌++◌, eqb, length, get_or, replicate, Result, Ok, Err}
+use Rattle.std.specs.Prelude.{ℕ, zero, suc, ◌-◌, ◌*◌, ◌/◌, ◌%◌, ◌^◌, cond, List, [], ◌∷◌, ◌++◌, eqb, length, get_or, replicate}
+use Rattle.std.specs.Prelude.{Result, Ok, Err}
 use Rattle.std.proofs.lemmas.List.Edits.{sets}
 use Rattle.memory.specs.Image.{bytes, filled}
 use Rattle.rules.specs.Refusals.{longest}
@@ -24,6 +25,7 @@ sheet_with image = record { image = image; fuses = all_unblown; steps = [] }
 
 -- And all bits are ones.
 unfoldable pub blank_sheet : Sheet
+unfolding sheet_with
 blank_sheet = sheet_with (replicate bytes all_ones)
 
 -- The last `count` bytes of x, first the most significant.
@@ -45,6 +47,7 @@ changed_fuses (Fuses n) fuses = n
 
 -- The sheet after a change.
 unfoldable pub changed : Change → Sheet → Sheet
+unfolding changed_image changed_fuses
 changed c s = record { image = changed_image c s.image; fuses = changed_fuses c s.fuses; steps = s.steps }
 
 -- The lines after the steps: all low before the first.

@@ -59,7 +59,7 @@ impl Sheet {
     ghost use Rattle.text.specs.Sheet.{blank_sheet, changed, driven, follow as follow_of};
     ghost use Rattle.text.specs.Held.{sheet_of, outcome_of};
 
-    #[tactic(auto, unfolding(crate::specs::Sheet::blank_sheet, crate::specs::Sheet::sheet_with, crate::specs::Held::sheet_of))]
+    #[tactic(auto, unfolding(crate::specs::Sheet::blank_sheet, crate::specs::Held::sheet_of))]
     pub(crate) fn blank() -> Sheet
         ensures { sheet_of result ≡ blank_sheet }
     {
@@ -71,7 +71,7 @@ impl Sheet {
         }
     }
 
-    #[tactic(auto, unfolding(crate::specs::Sheet::changed, crate::specs::Sheet::changed_image, crate::specs::Sheet::changed_fuses, crate::specs::Held::sheet_of))]
+    #[tactic(auto, unfolding(crate::specs::Sheet::changed, crate::specs::Held::sheet_of))]
     fn change(&mut self, c: Change)
         ensures { sheet_of self.new ≡ changed c (sheet_of self.old) }
     {

@@ -1,5 +1,6 @@
 -- What a line of text orders.
-use Rattle.std.specs.Prelude.{ℕ, ◌-◌, ◌/◌, ◌%◌, true, false, cond, List, [], ◌∷◌, eqb, ltb, length, get_or, Option, Some, None, Result, Ok, Err}
+use Rattle.std.specs.Prelude.{ℕ, ◌-◌, ◌/◌, ◌%◌, true, false, cond, List, [], ◌∷◌, eqb, ltb, length, get_or}
+use Rattle.std.specs.Prelude.{Option, Some, None, Result, Ok, Err}
 use Prim.Native.String.{String}
 use Rattle.memory.specs.Image.{bytes}
 use Rattle.words.specs.Scan.{up_to, first_word, after_word}
@@ -154,7 +155,7 @@ words_of verb = cond (ltb verb (the "power")) 1 (cond (ltb verb (the "byte")) 2 
 
 -- The first word says how many words the line has to have.
 unfoldable pub order_of : ℕ → ℕ → List ℕ → List ℕ → Result Order ℕ
-unfolding the
+unfolding the alone named numbered
 order_of verb count object value =
     cond (eqb count 0) (Ok Nothing)
     (cond (ltb (the "zone") verb) (Err unknown)

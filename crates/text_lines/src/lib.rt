@@ -4,7 +4,8 @@
 ghost use Rattle.std.specs.Prelude.{◌≡◌, get_or};
 ghost use Rattle.words.specs.Names.{verb_row, zone_row, row, row_of, row_in};
 ghost use Rattle.text_lines.specs.Faults.{numbered};
-ghost use Rattle.text_lines.specs.Orders.{word_count, words_of, either as either_of, walk_order, limited, lines_order, fuses_order, show_order, open_order};
+ghost use Rattle.text_lines.specs.Orders.{word_count, words_of, either as either_of};
+ghost use Rattle.text_lines.specs.Orders.{walk_order, limited, lines_order, fuses_order, show_order, open_order};
 ghost use Rattle.text_lines.specs.Orders.{firsts, sizes, bytes_order, byte_order, zone_order, order_of, words_order, line_order};
 
 use faults::Fault;
@@ -217,7 +218,7 @@ fn words_of(verb: Verb) -> usize
 }
 
 // The order of a line that has as many words as its first one says.
-#[tactic(auto, unfolding(words::specs::Names::row, crate::specs::Faults::numbered, crate::specs::Orders::words_of, crate::specs::Orders::order_of, crate::specs::Orders::alone, crate::specs::Orders::named, crate::specs::Orders::numbered))]
+#[tactic(auto, unfolding(words::specs::Names::row, crate::specs::Faults::numbered, crate::specs::Orders::words_of, crate::specs::Orders::order_of))]
 fn obeyed(verb: Verb, object: &[u8], value: &[u8]) -> Result<Order, Fault>
     ensures { numbered result ≡ order_of (verb_row verb) (words_of (verb_row verb)) object.now value.now }
 {

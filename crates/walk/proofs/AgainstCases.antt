@@ -8,4 +8,4 @@ use Rattle.walk.specs.Cases.{Walks}
 
 pub walks : Walks
 unfolding the_card sample walk_of packed unpacked
-walks = (refl, refl, refl, refl, refl, refl, refl, refl, refl, refl, refl)
+walks = (refl, refl, refl, refl, refl, refl, refl, refl, refl, refl)

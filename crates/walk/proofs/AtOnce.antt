@@ -5,7 +5,9 @@ use mathlib.Core.Path.{◌≡◌, refl, sym, ap, ◌∙◌}
 use mathlib.Core.Bool.{Bool, true, false, cond, not, ◌&&◌, ◌||◌}
 use lib.Dec.{eqb, ltb}
 use lib.Bits.{bit_and, bit_xor, xor_comm, and_le_r}
-use borrow.Author.Tests.{eqb-true, eq-eqb, ltb-true, lt-ltb, le-ltb, leb-true, not-true}
+use Rattle.std.specs.Prelude.{Some}
+use Rattle.std.proofs.lemmas.Option.{cond_some}
+use borrow.Author.Tests.{eqb-true, eq-eqb, ltb-true, le-ltb, leb-true, not-true}
 use Rattle.memory.specs.Image.{digit, bit}
 use Rattle.memory.proofs.Below.{all, and_left, and_right}
 use Rattle.rules.specs.Halves as Halves
@@ -20,10 +22,10 @@ use Rattle.volatile.proofs.Packing.{unpacked_packed}
 use Rattle.volatile.proofs.Sums.{ready}
 use Rattle.refusals.specs.Before.{given_refusal}
 use Rattle.refusals.proofs.Laws.{none_refused, ready_at}
-use Rattle.shown.specs.Shown.{plain_at, Shows}
+use Rattle.shown.specs.Shown.{plain_at, Reads}
 use Rattle.walk.specs.declared.Walked.{Walked}
 use Rattle.volatile.specs.Inner.{Ready, Steps}
-use Rattle.walk.specs.Calls.{calm, walked_to, walks, walk_to, no_walk, walk_of}
+use Rattle.walk.specs.Calls.{calm, walked_to, walks, walk_to, walk_of}
 use Rattle.walk.specs.Inside.{walked_half, Calm}
 use Rattle.edge_laws.proofs.Turned.{Turned, small_step, turned_by_mask}
 use Rattle.edge_laws.proofs.ByLine.{Goes, goes_to, clk_rises_lem, clk_walks}
@@ -143,29 +145,27 @@ module _ {g : Given} {n : ℕ} (c : Calm g n) where
 
   -- What the pin shows after it.
   as_held :
-      (u : Halves.Volatile) {r : ℕ} → Shows u.address (packed u).flags r → r < 2 →
-      may_read (held g.fuses u) (zone u.address) ≡ eqb r 1
+      (u : Halves.Volatile) {b : Bool} → Reads u.address (packed u).flags b →
+      may_read (held g.fuses u) (zone u.address) ≡ b
   unfolding unpacked
-  as_held u shows less =
-      shows.read less g.fuses u (ap (λ (v : Halves.Volatile). v.sv) (sym (unpacked_packed u)))
+  as_held u reads =
+      reads.read g.fuses u (ap (λ (v : Halves.Volatile). v.sv) (sym (unpacked_packed u)))
       (ap (λ (v : Halves.Volatile). v.r1) (sym (unpacked_packed u)))
 
   pin_by :
-      (up : Bool) {r : ℕ} → Shows (after up).address (packed (after up)).flags r → r < 2 →
-      pin (with_volatile (card_of g) (after up)) ≡ pin_value (eqb r 1) (bit g.memory (after up).address)
+      (up : Bool) {b : Bool} → Reads (after up).address (packed (after up)).flags b →
+      pin (with_volatile (card_of g) (after up)) ≡ pin_value b (bit g.memory (after up).address)
   unfolding pin driven clk_rises gone_on
-  pin_by true shows less = rw (ready n _ levels.ready_lines, levels.pgm, as_held (after true) shows less)
-  pin_by false shows less = rw (ready n _ levels.ready_lines, as_held (after false) shows less)
+  pin_by true reads = rw (ready n _ levels.ready_lines, levels.pgm, as_held (after true) reads)
+  pin_by false reads = rw (ready n _ levels.ready_lines, as_held (after false) reads)
 
   -- What a walk comes to.
   pub walked :
-      {r : ℕ} → Shows (walked_half g.half n).address (walked_half g.half n).flags r → r < 2 →
+      {b : Bool} → Reads (walked_half g.half n).address (walked_half g.half n).flags b →
       walk_to (next (card_of g) n) ≡
-      record { volatile = walked_half g.half n; pin = pin_value (eqb r 1) (bit g.memory (walked_half g.half n).address) }
+      Some (record { volatile = walked_half g.half n; pin = pin_value b (bit g.memory (walked_half g.half n).address) })
   unfolding walked_half packed
-  walked {r} shows less =
-      let plain = shows.plain ∙ lt-ltb r 2 less in
-      rw ((walk_goes plain).there, pin_by (digit 2 n) shows less)
+  walked reads = rw ((walk_goes reads.plain).there, pin_by (digit 2 n) reads)
 
   steps_so :
       plain_at (walked_to g.half.address n) ≡ true →
@@ -182,11 +182,10 @@ module _ (g : Given) (n : ℕ) where
 
   -- A walk's half and pin are the step's.
   pub walk_steps :
-      {w : Walked} → n < 256 → w ≡ walk_of g n → (w.pin ≡ 255 → ⊥) →
+      {w : Walked} → n < 256 → Some w ≡ walk_of g n →
       (given_refusal g ≡ 0) × Steps g (pin (card_of g)) n (with_half g w.volatile) w.pin 0
   unfolding walk_of
-  walk_steps {w} byte is other = go (walks g n) refl
-    where
-      go : (b : Bool) → walks g n ≡ b → (given_refusal g ≡ 0) × Steps g (pin (card_of g)) n (with_half g w.volatile) w.pin 0
-      go true e = let p = all_pass byte e in (unrefused p.0, rw (is, e) (steps_so p.0 p.1))
-      go false e = let same : w ≡ no_walk g.half = is ∙ rw e in absurd (other (ap (λ (x : Walked). x.pin) same))
+  walk_steps {w} byte is =
+      let led = cond_some (walks g n) _ w (sym is) in
+      let p = all_pass byte led.0 in
+      (unrefused p.0, rw (← led.1) (steps_so p.0 p.1))

@@ -1,5 +1,5 @@
 -- What a walk is, and what it comes to.
-use Rattle.std.specs.Prelude.{ℕ, ◌+◌, ◌/◌, Bool, cond, ◌&&◌, ◌||◌, eqb, ltb, leb, length}
+use Rattle.std.specs.Prelude.{ℕ, ◌+◌, ◌/◌, Bool, cond, ◌&&◌, ◌||◌, eqb, ltb, leb, length, Option, Some, None}
 use Rattle.std.specs.Int.Bits.{bit_and, bit_xor}
 use Rattle.memory.specs.Image.{bytes, digit}
 use Rattle.rules.specs.Halves.{Card}
@@ -27,13 +27,10 @@ walks g n =
     (ltb g.half.address 1519 &&
     (eqb (length g.memory) bytes && (leb g.fuses 7 && plain_at (walked_to g.half.address n)))))
 
--- The half and the pin of such a step; of any other the half as it came, and 255.
-abbrev pub walk_to : Card → Walked
-walk_to c = record { volatile = packed c.volatile; pin = pin c }
+-- The half and the pin of such a step; nothing of any other.
+abbrev pub walk_to : Card → Option Walked
+walk_to c = Some (record { volatile = packed c.volatile; pin = pin c })
 
-abbrev pub no_walk : Volatile → Walked
-no_walk v = record { volatile = v; pin = 255 }
-
-unfoldable pub walk_of : Given → ℕ → Walked
+unfoldable pub walk_of : Given → ℕ → Option Walked
 unfolding walks
-walk_of g n = cond (walks g n) (walk_to (next (card_of g) n)) (no_walk g.half)
+walk_of g n = cond (walks g n) (walk_to (next (card_of g) n)) None

@@ -1,11 +1,11 @@
 // A walk: CLK rises or falls with VCC on, RST and PGM low, where nothing is compared and nothing comes of an arrival.
 #![tactic(auto)]
 
-ghost use Rattle.std.specs.Prelude.{◌≡◌, cond, ◌<◌};
+ghost use Rattle.std.specs.Prelude.{◌≡◌, cond, ◌<◌, None};
 ghost use Rattle.rules.specs.Steps.{next};
 ghost use Rattle.volatile.specs.Packed.{given, card_of};
 ghost use Rattle.shown.specs.Shown.{plain_at};
-ghost use Rattle.walk.specs.Calls.{calm, walked_to, walk_to, no_walk, walk_of};
+ghost use Rattle.walk.specs.Calls.{calm, walked_to, walk_to, walk_of};
 ghost use Rattle.walk.specs.Inside.{walked_half, Calm};
 
 use memory::is_set;
@@ -14,10 +14,7 @@ use volatile::Volatile;
 // VCC, RST, PGM, and the bits that are no line.
 const ALL_BUT_CLK_IO_FUS: u32 = 203;
 
-// In place of a pin: the step is no walk.
-pub const NO_WALK: u8 = 255;
-
-// Where a walk leads: the half and the pin; of any other step the half as it came, and NO_WALK.
+// Where a walk leads: the half and the pin.
 #[derive(Clone, Copy)]
 pub struct Walked {
     pub volatile: Volatile,
@@ -32,16 +29,6 @@ fn is_calm(v: Volatile, n: u32) -> bool
     (v.lines ^ n == 4) & ((above == 0) | (above == (v.lines & 4) / 2))
 }
 
-// No walk: the half as it came.
-fn none(v: Volatile) -> Walked
-    ensures { result ≡ no_walk v }
-{
-    Walked {
-        volatile: v,
-        pin: NO_WALK,
-    }
-}
-
 // CLK rises or falls.
 fn clocks(v: Volatile, n: u32) -> Volatile
     requires { v.address < 1519 }
@@ -54,43 +41,40 @@ fn clocks(v: Volatile, n: u32) -> Volatile
 }
 
 // The half after a walk, and the pin, or no walk after all.
-fn comes_to(v: Volatile, image: &[u8], fuses: u8, n: u32) -> Walked
+fn comes_to(v: Volatile, image: &[u8], fuses: u8, n: u32) -> Option<Walked>
     requires { Calm (given image.now fuses v) n }
-    ensures { result ≡ cond (plain_at (walked_to v.address n)) (walk_to (next (card_of (given image.now fuses v)) n)) (no_walk v) }
+    ensures { result ≡ cond (plain_at (walked_to v.address n)) (walk_to (next (card_of (given image.now fuses v)) n)) None }
 {
     let next = clocks(v, n);
-    let shows = shown::shows(next.address, next.flags);
-    if shows == shown::APART {
-        return none(v);
-    }
+    let shown = shown::shows(next.address, next.flags)?;
     let bit = memory::read_bit(image, next.address as usize);
-    Walked {
+    Some(Walked {
         volatile: next,
-        pin: volatile::pin_value(shows == shown::BIT, bit),
-    }
+        pin: volatile::pin_value(shown, bit),
+    })
 }
 
 // One step where it walks, as most do: CLK on a card that is read. Any other is left to the card.
 // By the hint it stands in both exported calls: called, it would hand its answer over in memory, at over 30 instructions a step.
 #[inline(always)]
-pub fn step(image: &[u8], fuses: u8, v: Volatile, n: u8) -> Walked
+pub fn step(image: &[u8], fuses: u8, v: Volatile, n: u8) -> Option<Walked>
     ensures { result ≡ walk_of (given image.now fuses v) n }
 {
     let levels = n as u32;
     if levels & ALL_BUT_CLK_IO_FUS != 1 {
-        return none(v);
+        return None;
     }
     if !is_calm(v, levels) {
-        return none(v);
+        return None;
     }
     if rules::LAST <= v.address {
-        return none(v);
+        return None;
     }
     if image.len() != rules::BYTES {
-        return none(v);
+        return None;
     }
     if 7 < fuses {
-        return none(v);
+        return None;
     }
     comes_to(v, image, fuses, levels)
 }

@@ -1,18 +1,17 @@
 -- No two names are in one row.
-use Prim.Native.Nat.{ℕ}
 use mathlib.Core.Path.{◌≡◌, refl, sym, ap, ◌∙◌}
 use mathlib.Core.Bool.{false}
 use mathlib.Core.List.{List, [], ◌∷◌}
 use borrow.Author.Tests.{ne_eqb}
 use lib.Dec.{eqb}
-use Rattle.std.specs.Prelude.{Option, Some, slice_get}
-use Rattle.std.proofs.lemmas.Option.{same_Some}
+use Rattle.std.specs.Prelude.{Option, Some, None, slice_get}
+use Rattle.std.proofs.lemmas.Option.{same_Some, none-some}
 use Rattle.words.specs.declared.Verb.TheVariants as verb
 use Rattle.words.specs.declared.Level.TheVariants as level
 use Rattle.words.specs.declared.Zone.TheVariants as zone
 use Rattle.words.specs.declared.Name.{Name}
 use Rattle.words.specs.declared.Name.TheVariants.{Verb, Level, Zone}
-use Rattle.words.specs.Names.{verb_row, level_row, zone_row, row}
+use Rattle.words.specs.Names.{verb_row, level_row, zone_row, row, row_in}
 
 -- The names by their rows.
 abbrev by_row : List Name
@@ -60,3 +59,15 @@ in_its_row (Zone zone.MFZ) = refl
 pub apart : (n m : Name) → (n ≡ m → ⊥) → eqb (row n) (row m) ≡ false
 apart n m d =
     ne_eqb (row n) (row m) (λ e. d (same_Some n m (sym (in_its_row n) ∙ (ap (slice_get by_row) e ∙ in_its_row m))))
+
+-- A word that is no name is in no name's row.
+none_apart : (n : Name) → row n ≡ 31 → ⊥
+none_apart n e = none-some n (ap (slice_get by_row) (sym e) ∙ in_its_row n)
+
+-- What a word is found to be is known by its row.
+pub same_row : (a b : Option Name) → row_in a ≡ row_in b → a ≡ b
+unfolding row_in
+same_row None None e = refl
+same_row None (Some n) e = absurd (none_apart n (sym e))
+same_row (Some n) None e = absurd (none_apart n e)
+same_row (Some n) (Some m) e = sym (in_its_row n) ∙ (ap (slice_get by_row) e ∙ in_its_row m)

@@ -19,7 +19,9 @@ pub ahead_found :
     (λ i. (i < length s) × HoldsAt (λ b. stops_at x b ≡ true) s i × AllWithin (λ b. stops_at x b ≡ false) s 0 i)
     → ahead_of x s ≡ unwrap_or r (length s)
 unfolding ahead_of
-ahead_found x s r found = index_from_first (ahead_of x) (λ b. stops_at x b ≡ true) (λ b. stops_at x b ≡ false) refl (λ b l e. rw e refl) (λ b l e. rw e (omega arith)) s r found
+ahead_found x s r found =
+    index_from_first (ahead_of x) (λ b. stops_at x b ≡ true) (λ b. stops_at x b ≡ false) refl (λ b l e. rw e refl)
+    (λ b l e. rw e (omega arith)) s r found
 
 pub ahead_le : (x : Stop) (s : List ℕ) → ahead_of x s ≤ length s
 unfolding ahead_of

@@ -37,7 +37,9 @@ found_from :
     → row_in (option_map (λ (p : Line). p.1) (find (λ p. bytes_eq p.0.now w) ps)) ≡ k + index_of w (map (λ p. p.0.now) ps)
 unfolding in_rows row_in index_of
 found_from w k [] e = omega (arith, eqb-true k 31 e)
-found_from w k (p ∷ ps) e = go (bytes_eq p.0.now w) (eqb-true (row p.1) k (and_parts _ _ e).0) (found_from w (suc k) ps (and_parts _ _ e).1)
+found_from w k (p ∷ ps) e =
+    let (here, after) = and_parts (eqb (row p.1) k) (in_rows (suc k) ps) e in
+    go (bytes_eq p.0.now w) (eqb-true (row p.1) k here) (found_from w (suc k) ps after)
   where
     go :
         (t : Bool) → row p.1 ≡ k

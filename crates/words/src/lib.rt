@@ -204,5 +204,8 @@ const NAMES: [(&str, Name); 31] = [
 pub fn name_of(w: &[u8]) -> Option<Name>
     ensures { row_in result ≡ row_of w.now }
 {
-    NAMES.iter().find(|(text, _)| text.as_bytes() == w).map(|(_, name)| *name)
+    NAMES
+        .iter()
+        .find(|(text, _)| text.as_bytes() == w)
+        .map(|(_, name)| *name)
 }

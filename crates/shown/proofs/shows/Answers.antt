@@ -6,7 +6,7 @@ use Rattle.rules.specs.Zones.{between}
 use Rattle.shown.specs.Shown.{plain_at}
 use borrow.Author.Tests.{lt-ltb, le-ltb}
 use Rattle.volatile.proofs.Readable.{low_readable, middle_readable, high_readable}
-use Rattle.shown.proofs.Plain.{past_last, no_walk, no_walk_in, shown, not_shown, az_shown, az_not_shown}
+use Rattle.shown.proofs.Plain.{past_last, no_walk_in, shown, az_shown}
 use Rattle.shown.proofs.shows.Goals as goal
 
 pub returns-then-a-lt80 : goal.returns-then-a-lt80
@@ -17,7 +17,7 @@ returns-then-a-lt80 c =
 
 pub returns-then-a-lt105 : goal.returns-then-a-lt105
 unfolding all plain_at between
-returns-then-a-lt105 c = no_walk_in _ _ 80 25 refl (omega arith) (omega arith)
+returns-then-a-lt105 c = no_walk_in c.args.a c.args.flags 80 25 refl (omega arith) (omega arith)
 
 pub returns-then-a-lt176 : goal.returns-then-a-lt176
 unfolding all plain_at between
@@ -27,17 +27,14 @@ returns-then-a-lt176 c =
 
 pub returns-then-a-lt178 : goal.returns-then-a-lt178
 unfolding all plain_at between
-returns-then-a-lt178 c = no_walk_in _ _ 176 2 refl (omega arith) (omega arith)
-
-pub returns-then-flags-ne0 : goal.returns-then-flags-ne0
-returns-then-flags-ne0 c = az_shown _ _ (omega arith) (omega arith) c.if-flags-ne0.true
+returns-then-a-lt178 c = no_walk_in c.args.a c.args.flags 176 2 refl (omega arith) (omega arith)
 
 pub returns-then-a-lt1199 : goal.returns-then-a-lt1199
-returns-then-a-lt1199 c = az_not_shown _ _ (omega arith) (omega arith) c.if-flags-ne0.false
+returns-then-a-lt1199 c = az_shown _ _ (omega arith) (omega arith)
 
 pub returns-then-a-lt1233 : goal.returns-then-a-lt1233
 unfolding all plain_at between
-returns-then-a-lt1233 c = no_walk_in _ _ 1199 34 refl (omega arith) (omega arith)
+returns-then-a-lt1233 c = no_walk_in c.args.a c.args.flags 1199 34 refl (omega arith) (omega arith)
 
 pub returns-then-a-lt1360 : goal.returns-then-a-lt1360
 unfolding all plain_at between
@@ -48,7 +45,7 @@ returns-then-a-lt1360 c =
 
 pub returns-then-a-lt1361 : goal.returns-then-a-lt1361
 unfolding all plain_at between
-returns-then-a-lt1361 c = no_walk_in _ _ 1360 1 refl (omega arith) (omega arith)
+returns-then-a-lt1361 c = no_walk_in c.args.a c.args.flags 1360 1 refl (omega arith) (omega arith)
 
 pub returns-then-a-lt1392 : goal.returns-then-a-lt1392
 unfolding all plain_at between
@@ -62,7 +59,7 @@ unfolding all plain_at between
 returns-then-a-le-LAST c =
     let a = c.args.a in
     let past = le-ltb a 1392 (omega arith) in
-    not_shown a _ 1392 128 refl (omega arith) (omega arith) (λ h. high_readable h a (omega arith) ∙ past)
+    shown a _ 1392 128 refl (omega arith) (omega arith) (λ h. high_readable h a (omega arith) ∙ past)
 
 pub returns : goal.returns
-returns c = no_walk _ _ (past_last _ (omega arith))
+returns c = past_last _ (omega arith)

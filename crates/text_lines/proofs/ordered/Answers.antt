@@ -9,4 +9,6 @@ unfolding number numbered row row_in
 returns-then-count-words_of c =
     let verb = c.in-Some-Verb in
     let at : row_in c.args.first ≡ verb_row verb.verb = search rules in
-    rw at (sym (miscounted _ _ _ _ c.if-count-eq0.false (verb_below verb.verb) (λ e. c.if-count-words_of.true (e ∙ sym c.words_of.ensures))))
+    rw at
+    (sym
+    (miscounted _ _ _ _ c.if-count-eq0.false (verb_below verb.verb) (λ e. c.if-count-words_of.true (e ∙ sym c.words_of.ensures))))

@@ -6,5 +6,7 @@ use Rattle.text_lines.proofs.word_count.Goals as goal
 
 pub returns : goal.returns
 returns c =
-    let found = position_from_yields_List empty _ _ c.position.result c.position.ensures.ran (YieldsList-from_slice _ c.iter.ensures.rest) (λ x b q k. search (rules, tests)) in
+    let found =
+    position_from_yields_List empty _ _ c.position.result c.position.ensures.ran (YieldsList-from_slice _ c.iter.ensures.rest)
+    (λ x b q k. search (rules, tests)) in
     c.unwrap_or.ensures ∙ rw found (words_counted c.args.verb c.args.object c.args.value c.args.more)

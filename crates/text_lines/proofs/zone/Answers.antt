@@ -13,7 +13,8 @@ returns c =
     let place = c.place-first in
     let first = place.result.0 in
     let count = place.result.1 in
-    zone_filled zone.zone _ first count c.args.w.now _ (sym zone.ensures ∙ ap row zone.field-0-is) place.ensures.first place.ensures.count
+    zone_filled zone.zone _ first count c.args.w.now _ (sym zone.ensures ∙ ap row zone.field-0-is)
+    place.ensures.first place.ensures.count
     (or_else (row_of c.args.w.now) 19 20 (Image (Fill first count all_ones)) (Image (Fill first count 0)) (bytes_order first count c.args.w.now)
     c.either.result c.or_else.result (rw (c.filling.ensures, c.filling-2.ensures) at c.either.ensures) c.or_else.ensures
     (λ e q. search (rules, tests)))

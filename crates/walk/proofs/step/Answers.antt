@@ -8,25 +8,25 @@ use Rattle.walk.proofs.step.Goals as goal
 
 pub returns-then-levels-ne1 : goal.returns-then-levels-ne1
 unfolding walk_of walks
-returns-then-levels-ne1 c = rw (c.none.ensures, ne_eqb _ 1 c.if-levels-ne1.true)
+returns-then-levels-ne1 c = rw (ne_eqb _ 1 c.if-levels-ne1.true)
 
 pub returns-then-not-is_calm : goal.returns-then-not-is_calm
 unfolding walk_of walks
 returns-then-not-is_calm c =
     let test = c.is_calm in
-    simp (c.none-then-not-is_calm.ensures, sym test.ensures ∙ c.if-not-is_calm.true, and-false)
+    simp (sym test.ensures ∙ c.if-not-is_calm.true, and-false)
 
 pub returns-then-v-ge-LAST : goal.returns-then-v-ge-LAST
 unfolding walk_of walks
-returns-then-v-ge-LAST c = simp (c.none-then-v-ge-LAST.ensures, le-ltb _ 1519 c.if-v-ge-LAST.true, and-false)
+returns-then-v-ge-LAST c = simp (le-ltb _ 1519 c.if-v-ge-LAST.true, and-false)
 
 pub returns-then-image-ne-BYTES : goal.returns-then-image-ne-BYTES
 unfolding walk_of walks
-returns-then-image-ne-BYTES c = simp (c.none-then-image-ne-BYTES.ensures, ne_eqb _ bytes c.if-image-ne-BYTES.true, and-false)
+returns-then-image-ne-BYTES c = simp (ne_eqb _ bytes c.if-image-ne-BYTES.true, and-false)
 
 pub returns-then-fuses-gt7 : goal.returns-then-fuses-gt7
 unfolding walk_of walks
-returns-then-fuses-gt7 c = simp (c.none-then-fuses-gt7.ensures, lt-leb _ 7 c.if-fuses-gt7.true, and-false)
+returns-then-fuses-gt7 c = simp (lt-leb _ 7 c.if-fuses-gt7.true, and-false)
 
 pub comes_to-requires : goal.comes_to-requires
 comes_to-requires c =

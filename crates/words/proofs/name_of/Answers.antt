@@ -10,6 +10,8 @@ pub returns : goal.returns
 unfolding row_of names bytes_of in_rows row verb_row level_row zone_row
 returns c =
     let test : Line → Bool = λ p. bytes_eq p.0.now c.args.w.now in
-    let first = find_from_yields_List test _ _ c.find.result c.find.ensures.ran (YieldsList-from_slice c.iter.result.rest.now cc) (λ x b q k. search (rules, tests)) in
-    let m = taken c.find.result c.map.result c.map.ensures.cases (λ x n q. search (rules, tests)) in
-    rw (m, first) (found c.args.w.now _ _ c.iter.ensures.rest refl)
+    let first =
+    find_from_yields_List test _ _ c.find.result c.find.ensures.ran (YieldsList-from_slice c.iter.result.rest.now cc)
+    (λ x b q k. search (rules, tests)) in
+    let its_name = taken c.find.result c.map.result c.map.ensures.cases (λ x n q. search (rules, tests)) in
+    rw (its_name, first) (found c.args.w.now _ _ c.iter.ensures.rest refl)

@@ -10,16 +10,15 @@ use Rattle.card.proofs.edges.clock_falls.Goals as goal
 pub overflow_add-a : goal.overflow_add-a
 overflow_add-a c = omega (arith, address_within c.requires.ready)
 
-pub returns-then-shows-ne-APART : goal.returns-then-shows-ne-APART
+pub returns : goal.returns
 unfolding high place mask unpacked
-returns-then-shows-ne-APART c =
+returns c =
     let ready = c.requires.ready in
     let idle = c.requires.idle in
     let t = turned ready _ CLK c.requires.line in
     let down = c.requires.low in
-    let shows = c.shows-shows.ensures in
     rw (c.pin_value.ensures, c.goes_on.ensures, c.read_bit-bit.ensures)
-    (walks ready _ t down idle c.if-n-eq1.true shows (omega (arith, shows.small, c.if-shows-ne-APART.true)))
+    (walks ready _ t down idle c.if-n-eq1.true c.in-Some.ensures)
 
 pub returns-then-not-is_set : goal.returns-then-not-is_set
 unfolding high place mask unpacked
@@ -47,9 +46,9 @@ pub clock_counts-requires : goal.clock_counts-requires
 clock_counts-requires c =
     address_within c.requires.ready
 
-pub returns : goal.returns
+pub returns-2 : goal.returns-2
 unfolding high place mask unpacked
-returns c =
+returns-2 c =
     let ready = c.requires.ready in
     let idle = c.requires.idle in
     let t = turned ready _ CLK c.requires.line in
