@@ -37,15 +37,15 @@ pub enum Output {
 
 // What a program of this name, which takes no arguments, writes to.
 #[derive(Drop)]
-pub struct Console<W, E> {
+pub struct Console<'a, W, E> {
     pub to: W,
     pub errors: E,
-    pub program: &'static [u8],
+    pub program: &'a [u8],
     pub output: Output,
 }
 
 // A console on the program's own output.
-pub type Standard = Console<Stdout, Stderr>;
+pub type Standard = Console<'static, Stdout, Stderr>;
 
 // `PROGRAM: what which`, a line.
 fn put_told(to: &mut Filling, program: &[u8], what: &[u8], which: &[u8])
@@ -103,8 +103,8 @@ fn has_argument<R: Env>(rt: &R) -> bool {
     !matches!(rt.arg(1, &mut start), Err(FillError::NotPresent))
 }
 
-impl<W: io::Write, E: io::Write> Console<W, E> {
-    pub fn start<R: Env>(rt: &R, to: W, errors: E, program: &'static [u8]) -> Console<W, E>
+impl<'a, W: io::Write, E: io::Write> Console<'a, W, E> {
+    pub fn start<R: Env>(rt: &R, to: W, errors: E, program: &'a [u8]) -> Console<'a, W, E>
         ensures not_lost { NotLost result.output }
         ensures told { StartTold result.output (E.contents errors) (E.contents result.errors) program.now }
         ensures unsaid { result.to ≡ to }
