@@ -7,35 +7,10 @@ ghost use Rattle.shown.specs.Shown.{Shows};
 pub fn shows(a: u32, flags: u32) -> Option<bool>
     ensures { Shows a flags result }
 {
-    if a < 176 {
-        if a < 80 {
-            return Some(true);
-        }
-        if a < 105 {
-            return None;
-        }
-        return Some(true);
+    match a {
+        0..=79 | 105..=175 | 1233..=1359 | 1361..=1391 => Some(true),
+        178..=1198 => Some(flags & 5 != 0),
+        1392..=1519 => Some(false),
+        _ => None,
     }
-    if a < 1199 {
-        if a < 178 {
-            return None;
-        }
-        return Some(flags & 5 != 0);
-    }
-    if a < 1361 {
-        if a < 1233 {
-            return None;
-        }
-        if a < 1360 {
-            return Some(true);
-        }
-        return None;
-    }
-    if a < 1392 {
-        return Some(true);
-    }
-    if a <= rules::LAST {
-        return Some(false);
-    }
-    None
 }
