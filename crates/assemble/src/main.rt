@@ -6,7 +6,8 @@ use std::io::Write;
 
 // A text has at most 65,536 bytes, so one more tells a longer input. 84 bytes hold every line.
 fn main(rt: HostRuntime) {
-    let mut out = Console::start(&rt, rt.stdout(), rt.stderr(), b"assemble");
+    let (mut to, mut errors) = (rt.stdout(), rt.stderr());
+    let mut out = Console::start(&rt, &mut to, &mut errors, b"assemble");
     if !out.is_open() {
         return;
     }

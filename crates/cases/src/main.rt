@@ -13,7 +13,8 @@ use console::Console;
 use table::Table;
 
 fn main(rt: HostRuntime) {
-    let out = Console::start(&rt, rt.stdout(), rt.stderr(), b"cases");
+    let (mut to, mut errors) = (rt.stdout(), rt.stderr());
+    let out = Console::start(&rt, &mut to, &mut errors, b"cases");
     let mut t = Table::new(out);
     t.head(b"Each step from -> to: 0 is accepted, else the number of the refusal.");
     numbers::rows(&mut t);

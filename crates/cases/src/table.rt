@@ -4,13 +4,13 @@ use console::Standard;
 use volatile::Volatile;
 
 #[derive(Drop)]
-pub(crate) struct Table {
-    out: Standard,
+pub(crate) struct Table<'a> {
+    out: Standard<'a>,
     differences: u32,
 }
 
-impl Table {
-    pub(crate) fn new(out: Standard) -> Table {
+impl<'a> Table<'a> {
+    pub(crate) fn new(out: Standard<'a>) -> Table<'a> {
         Table {
             out,
             differences: 0,

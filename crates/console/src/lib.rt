@@ -35,17 +35,17 @@ pub enum Output {
     Stopped,
 }
 
-// What a program of this name, which takes no arguments, writes to.
+// What a program of this name, which takes no arguments, is lent to write to.
 #[derive(Drop)]
 pub struct Console<'a, W, E> {
-    pub to: W,
-    pub errors: E,
+    pub to: &'a mut W,
+    pub errors: &'a mut E,
     pub program: &'a [u8],
     pub output: Output,
 }
 
 // A console on the program's own output.
-pub type Standard = Console<'static, Stdout, Stderr>;
+pub type Standard<'a> = Console<'a, Stdout, Stderr>;
 
 // `PROGRAM: what which`, a line.
 fn put_told(to: &mut Filling, program: &[u8], what: &[u8], which: &[u8])
@@ -104,11 +104,15 @@ fn has_argument<R: Env>(rt: &R) -> bool {
 }
 
 impl<'a, W: io::Write, E: io::Write> Console<'a, W, E> {
-    pub fn start<R: Env>(rt: &R, to: W, errors: E, program: &'a [u8]) -> Console<'a, W, E>
+    pub fn start<R: Env>(
+        rt: &R,
+        to: &'a mut W,
+        errors: &'a mut E,
+        program: &'a [u8],
+    ) -> Console<'a, W, E>
         ensures not_lost { NotLost result.output }
-        ensures told { StartTold result.output (E.contents errors) (E.contents result.errors) program.now }
-        ensures unsaid { result.to ≡ to }
-        ensures program { result.program ≡ program.entry }
+        ensures told { StartTold result.output (E.contents errors.old) (E.contents result.errors.now) program.now }
+        ensures lent { (result.to ≡ to.entry) × (result.errors.ghost_name ≡ errors.entry.ghost_name) × (result.program ≡ program.entry) }
     {
         let mut out = Console {
             to,
@@ -136,13 +140,13 @@ impl<'a, W: io::Write, E: io::Write> Console<'a, W, E> {
     ) -> Result<usize, Unreadable>
         ensures taken { Taken result into.new }
         ensures consumed { Consumed result (R.remaining from.old) (R.remaining from.new) into.new }
-        ensures told { InputTold result (E.contents self.old.errors) (E.contents self.new.errors) self.old.program.now }
-        ensures kept { self.new ≡ record self.old { errors = self.new.errors } }
+        ensures told { InputTold result (E.contents self.old.errors.now) (E.contents self.new.errors.now) self.old.program.now }
+        ensures kept { (self.new.to ≡ self.old.to) × (self.new.errors.ghost_name ≡ self.old.errors.ghost_name) × (self.new.program ≡ self.old.program) × (self.new.output ≡ self.old.output) }
     {
         let read = read_full(from, into);
         if read.is_err() {
             tell(
-                &mut self.errors,
+                self.errors,
                 self.program,
                 b"standard input cannot be read",
                 b"",
@@ -153,18 +157,18 @@ impl<'a, W: io::Write, E: io::Write> Console<'a, W, E> {
 
     pub fn say(&mut self, text: &[u8])
         ensures said { Said self.old.output self.new.output }
-        ensures written { Written self.old.output self.new.output (W.contents self.old.to) (W.contents self.new.to) text.now }
-        ensures kept { self.new ≡ record self.old { to = self.new.to; output = self.new.output } }
+        ensures written { Written self.old.output self.new.output (W.contents self.old.to.now) (W.contents self.new.to.now) text.now }
+        ensures kept { (self.new.to.ghost_name ≡ self.old.to.ghost_name) × (self.new.errors ≡ self.old.errors) × (self.new.program ≡ self.old.program) }
     {
-        if self.is_open() && write_whole(&mut self.to, text).is_err() {
+        if self.is_open() && write_whole(self.to, text).is_err() {
             self.output = Output::Lost;
         }
     }
 
     pub fn number(&mut self, n: u64)
         ensures said { Said self.old.output self.new.output }
-        ensures written { Written self.old.output self.new.output (W.contents self.old.to) (W.contents self.new.to) (decimal n) }
-        ensures kept { self.new ≡ record self.old { to = self.new.to; output = self.new.output } }
+        ensures written { Written self.old.output self.new.output (W.contents self.old.to.now) (W.contents self.new.to.now) (decimal n) }
+        ensures kept { (self.new.to.ghost_name ≡ self.old.to.ghost_name) × (self.new.errors ≡ self.old.errors) × (self.new.program ≡ self.old.program) }
     {
         let mut digits = [0u8; 20];
         let mut to = Filling::of(&mut digits);
@@ -176,11 +180,11 @@ impl<'a, W: io::Write, E: io::Write> Console<'a, W, E> {
     #[tactic(auto, using(crate::proofs::Laws::stops, crate::proofs::Laws::stands))]
     pub fn stop(&mut self, what: &[u8], which: &[u8])
         ensures state { self.new.output ≡ stopped self.old.output }
-        ensures told { StopTold self.old.output (E.contents self.old.errors) (E.contents self.new.errors) (told_line self.old.program.now what.now which.now) }
-        ensures kept { self.new ≡ record self.old { errors = self.new.errors; output = self.new.output } }
+        ensures told { StopTold self.old.output (E.contents self.old.errors.now) (E.contents self.new.errors.now) (told_line self.old.program.now what.now which.now) }
+        ensures kept { (self.new.to ≡ self.old.to) × (self.new.errors.ghost_name ≡ self.old.errors.ghost_name) × (self.new.program ≡ self.old.program) }
     {
         if self.is_open() {
-            tell(&mut self.errors, self.program, what, which);
+            tell(self.errors, self.program, what, which);
             self.output = Output::Stopped;
         }
     }
@@ -189,12 +193,12 @@ impl<'a, W: io::Write, E: io::Write> Console<'a, W, E> {
     #[tactic(auto, using(crate::proofs::Laws::ends, crate::proofs::Laws::is_ended))]
     pub fn end(&mut self)
         ensures state { self.new.output ≡ ended self.old.output }
-        ensures told { EndTold self.old.output (E.contents self.old.errors) (E.contents self.new.errors) self.old.program.now }
-        ensures kept { self.new ≡ record self.old { errors = self.new.errors; output = self.new.output } }
+        ensures told { EndTold self.old.output (E.contents self.old.errors.now) (E.contents self.new.errors.now) self.old.program.now }
+        ensures kept { (self.new.to ≡ self.old.to) × (self.new.errors.ghost_name ≡ self.old.errors.ghost_name) × (self.new.program ≡ self.old.program) }
     {
         if self.output == Output::Lost {
             tell(
-                &mut self.errors,
+                self.errors,
                 self.program,
                 b"standard output cannot be written",
                 b"",

@@ -88,7 +88,8 @@ fn lesson<F: Files>(files: &F, out: &mut Standard, text: &str, session: &str) {
 }
 
 fn main(rt: HostRuntime) {
-    let mut out = Console::start(&rt, rt.stdout(), rt.stderr(), b"lessons");
+    let (mut to, mut errors) = (rt.stdout(), rt.stderr());
+    let mut out = Console::start(&rt, &mut to, &mut errors, b"lessons");
     for (text, session) in LESSONS {
         lesson(&rt, &mut out, text, session);
     }

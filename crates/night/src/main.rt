@@ -133,7 +133,8 @@ fn visits(out: &mut Standard, off: usize) {
 }
 
 fn main(rt: HostRuntime) {
-    let mut out = Console::start(&rt, rt.stdout(), rt.stderr(), b"night");
+    let (mut to, mut errors) = (rt.stdout(), rt.stderr());
+    let mut out = Console::start(&rt, &mut to, &mut errors, b"night");
     out.say(
         b"Nine visits, each from power-on to power-off, each with the right code.\n\
         The pin is read at bit 178, a 0 of the application zone: 0 is open, 1 is shut.\n\n\

@@ -120,7 +120,8 @@ fn records<R: io::Read>(from: &mut R, out: &mut Standard) {
 }
 
 fn main(rt: HostRuntime) {
-    let mut out = Console::start(&rt, rt.stdout(), rt.stderr(), b"replay");
+    let (mut to, mut errors) = (rt.stdout(), rt.stderr());
+    let mut out = Console::start(&rt, &mut to, &mut errors, b"replay");
     if out.is_open() {
         records(&mut rt.stdin(), &mut out);
         out.end();

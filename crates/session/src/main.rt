@@ -25,7 +25,8 @@ fn answer(session: &[u8], out: &mut [u8]) -> Option<usize>
 
 // A session has at most 181 + 4096 bytes, so one more tells a longer input. 4,202 bytes hold every text.
 fn main(rt: HostRuntime) {
-    let mut out = Console::start(&rt, rt.stdout(), rt.stderr(), b"session");
+    let (mut to, mut errors) = (rt.stdout(), rt.stderr());
+    let mut out = Console::start(&rt, &mut to, &mut errors, b"session");
     if !out.is_open() {
         return;
     }

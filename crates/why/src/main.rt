@@ -74,7 +74,8 @@ fn answer(out: &mut Standard, session: &[u8]) {
 
 // A session has at most 181 + 4096 bytes, so one more tells a longer input.
 fn main(rt: HostRuntime) {
-    let mut out = Console::start(&rt, rt.stdout(), rt.stderr(), b"why");
+    let (mut to, mut errors) = (rt.stdout(), rt.stderr());
+    let mut out = Console::start(&rt, &mut to, &mut errors, b"why");
     if !out.is_open() {
         return;
     }
