@@ -1,13 +1,12 @@
 -- Bytes put one behind the other, and what they come to at the start of a buffer.
 use Prim.Native.Nat.{ℕ, suc, min, ◌+◌, ◌-◌, ◌≤◌, ◌<◌}
 use native.Mathlib.Nat.{add-zero, zero-add}
-use native.Mathlib.Numerals.{add-one}
 use native.Mathlib.Omega.{arith}
 use native.Mathlib.Decide.{dec_lt, dec_le}
 use mathlib.Core.Path.{◌≡◌, refl, sym, ap, ◌∙◌}
-use mathlib.Core.List.{List, [], ◌∷◌, ◌++◌, append_assoc, append-nil}
-use lib.ListN.{length, get_or, set, take, drop, length-append, drop_of_length-le}
-use lib.Seq.{sets, sets-eq, set_out, length-sets, drop-cons, take_at, take_all, paste, length-take-le}
+use mathlib.Core.List.{List, [], ◌∷◌, ◌++◌, append-nil}
+use lib.ListN.{length, set, take, drop, length-append, drop_of_length-le}
+use lib.Seq.{sets, sets-eq, set_out, length-sets, take_at, take_all, paste, length-take-le}
 use Rattle.std.proofs.Common.{take-append-drop}
 use Rattle.memory.specs.Buffer.{Put}
 
@@ -52,9 +51,6 @@ part_put l at k a {m} h e s = record { place = ap (λ n. at + n) e; stored = s �
 pub nothing_put : (l : List ℕ) (at : ℕ) → Put l at [] at l
 nothing_put l at = record { place = omega arith; stored = refl }
 
-pub one_put : (l : List ℕ) (at x : ℕ) → at < length l → Put l at (x ∷ []) (at + 1) (set l at x)
-one_put l at x h = record { place = omega arith; stored = refl }
-
 module _ {l m : List ℕ} {at n : ℕ} {a : List ℕ} (p : Put l at a n m) where
   pub same_room : length m ≡ length l
   same_room = ap length p.stored ∙ length-sets l at a
@@ -77,29 +73,6 @@ module _ {l m : List ℕ} {at n : ℕ} {a : List ℕ} (p : Put l at a n m) where
         place = omega (arith, p.place, q.place, same_room, length-append a b);
         stored = q.stored ∙ (behind b ∙ rw p.stored (sets_append l at a b));
       }
-
--- In the middle of putting `all`: `rest` is not put yet.
-pub record Putting (l : List ℕ) (at : ℕ) (all rest : List ℕ) (next : ℕ) (m : List ℕ) : Type 0 where
-  pub front : List ℕ
-  pub split : front ++ rest ≡ all
-  pub put : Put l at front next m
-
-pub start : (l : List ℕ) (at : ℕ) (all : List ℕ) → Putting l at all all at l
-start l at all = record { front = []; split = refl; put = nothing_put l at }
-
-module _ {l m : List ℕ} {at n : ℕ} {all rest : List ℕ} where
-  pub further : {b o : List ℕ} {k : ℕ} → Putting l at all (b ++ rest) n m → Put m n b k o → Putting l at all rest k o
-  further {b} w p = record { front = w.front ++ b; split = append_assoc w.front b rest ∙ w.split; put = then w.put p }
-
-  -- What is left is put at once.
-  pub ended : {o : List ℕ} {k : ℕ} → Putting l at all rest n m → Put m n rest k o → Put l at all k o
-  ended w p = rw w.split at (then w.put p)
-
--- Byte i of s is put, and those behind it are left.
-pub next_byte :
-    {l m o all : List ℕ} {at n k : ℕ} (i : ℕ) (s : List ℕ) (d : ℕ) → i < length s → Putting l at all (drop i s) n m →
-    Put m n (get_or s i d ∷ []) k o → Putting l at all (drop (i + 1) s) k o
-next_byte i s d h w p = further (rw (drop-cons s i d h, ← add-one i) at w) p
 
 -- Bytes that fit stand at the start of the buffer.
 module _ {bytes before after : List ℕ} {n : ℕ} (h : length bytes ≤ length before) (p : Put before 0 bytes n after) where

@@ -1,5 +1,4 @@
 pub mod Below
-pub mod Arms
 pub mod Laws
 pub mod Buffer
 pub mod Determined
