@@ -1,4 +1,5 @@
-// The card, driven line by line: a step, a run.
+// The card, driven line by line: a step, a run. The image is lent, the fuse byte and the half go in by value and come back, as the exported
+// calls have them.
 #![tactic(auto)]
 
 ghost use Rattle.std.specs.Prelude.{◌≡◌, length};

@@ -82,7 +82,7 @@ fn tell<E: io::Write>(errors: &mut E, program: &[u8], what: &[u8], which: &[u8])
     let _ = write_whole(errors, to.so_far());
 }
 
-// Reads until the buffer is full or the input ends.
+// Reads until the buffer is full or the input ends. `read_exact` doesn't say what is read where it fails.
 pub fn read_full<R: io::Read>(from: &mut R, into: &mut [u8]) -> Result<usize, Unreadable>
     ensures taken { Taken result into.new }
     ensures consumed { Consumed result (R.remaining from.old) (R.remaining from.new) into.new }
@@ -132,7 +132,7 @@ impl<'a, W: io::Write, E: io::Write> Console<'a, W, E> {
         self.output == Output::Open
     }
 
-    // Standard input.
+    // Standard input. Each program asks for it by itself, after `is_open`, since its buffer has a size of its own.
     pub fn read_input<R: io::Read>(
         &mut self,
         from: &mut R,

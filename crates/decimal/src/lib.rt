@@ -23,6 +23,7 @@ pub fn put_digit(to: &mut Filling, x: usize)
     to.put(&[b'0' + (x % 10) as u8]);
 }
 
+// By hand: of a buffer that is too short a formatter doesn't say which bytes it wrote.
 #[tactic(auto, using(crate::proofs::Digits::one_digit))]
 pub fn put_decimal(to: &mut Filling, x: usize)
     ensures { Filled to.old (decimal x) to.new }

@@ -25,7 +25,7 @@ pub struct Programmed {
     pub volatile: Volatile,
 }
 
-// The operation, on the image and on the fuses.
+// The operation, on the image and on the fuses. The kinds are closed, and the contract speaks of each: a `match`, and no closure for one.
 fn carry_out(op: Operation, image: &mut [u8], fuses: u8, a: u32) -> Done
     ensures done { result ≡ done_by op image.old fuses a }
     ensures memory { image.new ≡ memory_after op a image.old }

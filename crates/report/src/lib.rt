@@ -13,7 +13,7 @@ use memory::lent::Filling;
 const NEWLINE: &[u8] = b"\n";
 
 // What the four lines tell of a run: that it did `done` of the steps given. Of the answers the first `done` are told, all of them if there
-// are fewer.
+// are fewer. The refusal is any number, as `bad`'s is: an enum would take fewer.
 #[derive(Clone, Copy)]
 pub struct Run<'a> {
     pub done: usize,

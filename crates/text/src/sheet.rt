@@ -16,6 +16,7 @@ const UNBLOWN: u8 = 7;
 // The byte of bits 96 to 103.
 const ATTEMPTS: usize = 12;
 
+// No heap: the steps stand in an array, with their count beside them.
 #[derive(Drop)]
 pub(crate) struct Sheet {
     pub image: [u8; rules::BYTES],
@@ -112,6 +113,7 @@ impl Sheet {
         Ok(())
     }
 
+    // Orders and changes are a text's, so their kinds are closed: each is matched on.
     #[tactic(auto, unfolding(crate::specs::Sheet::follow, crate::specs::Held::outcome_of, text_lines::specs::Faults::numbered))]
     pub(crate) fn follow(&mut self, order: Order) -> Result<(), Fault>
         ensures { outcome_of (numbered result) self.new ≡ follow_of order (sheet_of self.old) }

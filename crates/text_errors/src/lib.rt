@@ -8,7 +8,7 @@ ghost use Rattle.text_errors.specs.ErrorLine.{words, error_line, enough};
 
 use memory::lent::Filling;
 
-// The words of a refusal, and some for one that has no row.
+// The words of a refusal, and some for one that has no row. It is any number, as `error_line` takes any: an enum would take fewer.
 fn words_of(refusal: u8) -> &'static [u8]
     ensures { result.now ≡ words refusal }
 {

@@ -49,6 +49,7 @@ fn starts_at(act: Act, lines: u8) -> bool
     }
 }
 
+// The acts are a text's, so their kinds are closed: a `match`, and no closure in the place of a kind.
 #[tactic(auto, unfolding(crate::specs::Steps::steps_of, crate::specs::Steps::maker_refusal, crate::specs::Steps::fus_at))]
 fn made(act: Act, lines: u8, attempts: u8, out: &mut [u8]) -> Result<usize, Refusal>
     ensures { Acted (maker_refusal act attempts) (steps_of act lines attempts) out.old (numbered result) out.new }

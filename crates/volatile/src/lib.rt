@@ -80,6 +80,7 @@ pub struct Volatile {
     pub flags: u32,
 }
 
+// A mask of what a right asks for, as `Rights.unless`; `act_parts` has one of the lines, which nothing here stands on.
 fn unless(there: bool, mask: u8) -> u8
     ensures { (result ≡ cond there 0 mask) × (result ≤ mask) }
 {
