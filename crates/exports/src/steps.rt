@@ -63,10 +63,9 @@ pub extern "C" fn zhav_fresh() -> Volatile
 fn of_walk(w: Walked, fuses: u8) -> ZhavStepped
     ensures { result ≡ of_walk w fuses }
 {
-    let next = w.volatile;
     ZhavStepped {
-        half: next,
-        fuses: fuses,
+        half: w.volatile,
+        fuses,
         answer: w.pin,
         refusal: 0,
     }
@@ -138,9 +137,8 @@ pub extern "C" fn zhav_run(
     ensures { RunAnswered (given image.old fuses v) steps.now answers.old (given image.new result.fuses result.half) result.done result.refusal answers.new }
 {
     let ran = card::run(image, fuses, v, steps, answers);
-    let half = ran.volatile;
     ZhavRan {
-        half: half,
+        half: ran.volatile,
         done: ran.done,
         fuses: ran.fuses,
         refusal: rules::number_if_any(ran.refusal),

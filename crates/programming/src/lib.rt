@@ -46,10 +46,7 @@ fn carry_out(op: Operation, image: &mut [u8], fuses: u8, a: u32) -> Done
         Operation::BlowECEN => f = fuses & 253,
         Operation::BlowISS => f = fuses & 251,
     }
-    Done {
-        fuses: f,
-        turned: turned,
-    }
+    Done { fuses: f, turned }
 }
 
 // CLK falls, and the operation takes effect.
@@ -70,7 +67,7 @@ pub fn power_falls(v: Volatile, fuses: u8, n: u32) -> Programmed
     ensures { result ≡ programmed fuses (packed (off n)) }
 {
     Programmed {
-        fuses: fuses,
+        fuses,
         volatile: v.power_falls(n),
     }
 }
