@@ -26,6 +26,7 @@ pub struct Programmed {
 }
 
 // The operation, on the image and on the fuses. The kinds are closed, and the contract speaks of each: a `match`, and no closure for one.
+#[tactic(auto, using(crate::proofs::Fuses::mf_blown, crate::proofs::Fuses::ec_en_blown, crate::proofs::Fuses::iss_blown), unfolding(crate::specs::Leaves::done_by, rules::specs::Programming::memory_after, rules::specs::Programming::fuses_after, rules::specs::Programming::turns))]
 fn carry_out(op: Operation, image: &mut [u8], fuses: u8, a: u32) -> Done
     ensures done { result ≡ done_by op image.old fuses a }
     ensures memory { image.new ≡ memory_after op a image.old }
