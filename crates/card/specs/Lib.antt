@@ -1,3 +1,4 @@
 pub mod Calls
 pub mod Moves
+pub mod Poised
 pub mod Cases

@@ -36,10 +36,11 @@ pub(crate) fn following(a: u32) -> u32
 
 impl<'a> Poised<'a> {
     ghost use Rattle.card.specs.Moves.{Moves, moved_to};
+    ghost use Rattle.card.specs.Poised.{held};
 
     // CLK falls with RST low: compare, and on by one.
     fn clock_counts(self, n: u32) -> Moved
-        ensures { result ≡ moved_to (clocked n (card_of (given self.entry.image.now self.entry.fuses self.entry.volatile))) }
+        ensures { result ≡ moved_to (clocked n (card_of (held self.entry))) }
     {
         let v = self.volatile;
         let matched = v.compared(self.image, v.level1(self.fuses));
@@ -54,7 +55,7 @@ impl<'a> Poised<'a> {
         requires idle { digit 3 self.volatile.flags ≡ false }
         requires line { bit_xor self.volatile.lines n ≡ 4 }
         requires low { digit 2 n ≡ false }
-        ensures { Moves (given self.entry.image.now self.entry.fuses self.entry.volatile) self.entry.pin n (Ok result) }
+        ensures { Moves (held self.entry) self.entry.pin n (Ok result) }
     {
         let a = self.volatile.address + 1;
         if n & masks::VCC_RST_PGM == 1
@@ -86,7 +87,7 @@ impl<'a> Poised<'a> {
     pub(crate) fn clock(self, n: u32) -> Moved
         requires idle { digit 3 self.volatile.flags ≡ false }
         requires line { bit_xor self.volatile.lines n ≡ 4 }
-        ensures { Moves (given self.entry.image.now self.entry.fuses self.entry.volatile) self.entry.pin n (Ok result) }
+        ensures { Moves (held self.entry) self.entry.pin n (Ok result) }
     {
         if !is_set(n, volatile::CLK) {
             return self.clock_falls(n);
@@ -106,7 +107,7 @@ impl<'a> Poised<'a> {
     // PGM rises or falls.
     fn program(self, n: u32) -> Result<Moved, Refusal>
         requires { bit_xor self.volatile.lines n ≡ 8 }
-        ensures { Moves (given self.entry.image.now self.entry.fuses self.entry.volatile) self.entry.pin n result }
+        ensures { Moves (held self.entry) self.entry.pin n result }
     {
         if n & masks::VCC_CLK_PGM == masks::VCC_CLK_PGM {
             return Err(Refusal::PGMRisesWithCLKHigh);
@@ -117,7 +118,7 @@ impl<'a> Poised<'a> {
     // RST rises or falls.
     fn reset(self, n: u32) -> Result<Moved, Refusal>
         requires { bit_xor self.volatile.lines n ≡ 2 }
-        ensures { Moves (given self.entry.image.now self.entry.fuses self.entry.volatile) self.entry.pin n result }
+        ensures { Moves (held self.entry) self.entry.pin n result }
     {
         if is_set(self.volatile.flags, volatile::PROGRAMMING) {
             return Err(Refusal::RSTOrFUSInProgramming);
@@ -134,7 +135,7 @@ impl<'a> Poised<'a> {
     // FUS rises or falls.
     fn fuse(self, n: u32) -> Result<Moved, Refusal>
         requires { bit_xor self.volatile.lines n ≡ 32 }
-        ensures { Moves (given self.entry.image.now self.entry.fuses self.entry.volatile) self.entry.pin n result }
+        ensures { Moves (held self.entry) self.entry.pin n result }
     {
         if is_set(self.volatile.flags, volatile::PROGRAMMING) {
             return Err(Refusal::RSTOrFUSInProgramming);
@@ -145,7 +146,7 @@ impl<'a> Poised<'a> {
     // VCC rises or falls.
     fn power(self, n: u32) -> Result<Moved, Refusal>
         requires { bit_xor self.volatile.lines n ≡ 1 }
-        ensures { Moves (given self.entry.image.now self.entry.fuses self.entry.volatile) self.entry.pin n result }
+        ensures { Moves (held self.entry) self.entry.pin n result }
     {
         if !is_set(n, volatile::VCC) {
             return Ok(Moved {
@@ -164,7 +165,7 @@ impl<'a> Poised<'a> {
         requires clock { bit_xor self.volatile.lines n ≡ 4 → ⊥ }
         requires io { bit_xor self.volatile.lines n ≡ 16 → ⊥ }
         requires program { bit_xor self.volatile.lines n ≡ 8 → ⊥ }
-        ensures { Moves (given self.entry.image.now self.entry.fuses self.entry.volatile) self.entry.pin n result }
+        ensures { Moves (held self.entry) self.entry.pin n result }
     {
         if 63 < n {
             return Err(Refusal::StepOver63);
@@ -191,7 +192,7 @@ impl<'a> Poised<'a> {
     // A step that does not turn over CLK.
     pub(crate) fn other_than_clock(self, n: u32) -> Result<Moved, Refusal>
         requires { bit_xor self.volatile.lines n ≡ 4 → ⊥ }
-        ensures { Moves (given self.entry.image.now self.entry.fuses self.entry.volatile) self.entry.pin n result }
+        ensures { Moves (held self.entry) self.entry.pin n result }
     {
         let d = self.volatile.lines ^ n;
         if d == 16 {
