@@ -1,4 +1,3 @@
 pub mod Calls
 pub mod Moves
-pub mod Poised
 pub mod Cases

@@ -6,22 +6,13 @@ ghost use Rattle.rules.specs.Match.{following};
 ghost use Rattle.rules.specs.Steps.{clocked};
 ghost use Rattle.volatile.specs.Packed.{given, card_of};
 ghost use Rattle.volatile.specs.Inner.{Ready};
+ghost use Rattle.card.specs.Moves.{Moves, moved_to};
 
 use crate::masks;
 use crate::moved::Moved;
 use memory::is_set;
 use rules::Refusal;
 use volatile::Volatile;
-
-// A card that 10, 14 and 9 let pass, with its pin at hand.
-#[derive(Clone, Copy)]
-pub(crate) struct Poised<'a> {
-    pub(crate) volatile: Volatile,
-    pub(crate) image: &'a [u8],
-    pub(crate) fuses: u8,
-    pub(crate) pin: u8,
-    ghost ready: { Ready (given image.now fuses volatile) pin },
-}
 
 // The address goes up by one, 1519 going to 0.
 pub(crate) fn following(a: u32) -> u32
@@ -34,176 +25,194 @@ pub(crate) fn following(a: u32) -> u32
     a + 1
 }
 
-impl<'a> Poised<'a> {
-    ghost use Rattle.card.specs.Moves.{Moves, moved_to};
-    ghost use Rattle.card.specs.Poised.{held};
+// CLK falls with RST low: compare, and on by one.
+pub(crate) fn clock_counts(v: Volatile, image: &[u8], fuses: u8, n: u32) -> Moved
+    requires { v.address ≤ 1519 }
+    ensures { result ≡ moved_to (clocked n (card_of (given image.now fuses v))) }
+{
+    let matched = v.compared(image, v.level1(fuses));
+    let next = v
+        .unlatched(n, matched)
+        .arrives(image, fuses, following(v.address));
+    Moved::read(next, image, fuses)
+}
 
-    // CLK falls with RST low: compare, and on by one.
-    fn clock_counts(self, n: u32) -> Moved
-        ensures { result ≡ moved_to (clocked n (card_of (held self.entry))) }
+// CLK falls and no programming is under way.
+pub(crate) fn clock_falls(v: Volatile, image: &[u8], fuses: u8, pin: u8, n: u32) -> Moved
+    requires ready { Ready (given image.now fuses v) pin }
+    requires idle { digit 3 v.flags ≡ false }
+    requires line { bit_xor v.lines n ≡ 4 }
+    requires low { digit 2 n ≡ false }
+    ensures { Moves (given image.now fuses v) pin n (Ok result) }
+{
+    let a = v.address + 1;
+    if n & masks::VCC_RST_PGM == 1
+        && let Some(shown) = shown::shows(a, v.flags)
     {
-        let v = self.volatile;
-        let matched = v.compared(self.image, v.level1(self.fuses));
-        let next = v
-            .unlatched(n, matched)
-            .arrives(self.image, self.fuses, following(v.address));
-        Moved::read(next, self.image, self.fuses)
+        let bit = memory::read_bit(image, a as usize);
+        return Moved {
+            volatile: v.goes_on(n, a),
+            pin: volatile::pin_value(shown, bit),
+        };
     }
+    if !is_set(n, volatile::VCC) {
+        return Moved {
+            volatile: v.follows(n),
+            pin,
+        };
+    }
+    if is_set(n, volatile::RST) {
+        let matched = is_set(v.flags, volatile::MATCH);
+        return Moved {
+            volatile: v.unlatched(n, matched),
+            pin,
+        };
+    }
+    clock_counts(v, image, fuses, n)
+}
 
-    // CLK falls and no programming is under way.
-    fn clock_falls(self, n: u32) -> Moved
-        requires idle { digit 3 self.volatile.flags ≡ false }
-        requires line { bit_xor self.volatile.lines n ≡ 4 }
-        requires low { digit 2 n ≡ false }
-        ensures { Moves (held self.entry) self.entry.pin n (Ok result) }
-    {
-        let a = self.volatile.address + 1;
-        if n & masks::VCC_RST_PGM == 1
-            && let Some(shown) = shown::shows(a, self.volatile.flags)
-        {
-            let bit = memory::read_bit(self.image, a as usize);
-            return Moved {
-                volatile: self.volatile.goes_on(n, a),
-                pin: volatile::pin_value(shown, bit),
-            };
-        }
-        if !is_set(n, volatile::VCC) {
-            return Moved {
-                volatile: self.volatile.follows(n),
-                pin: self.pin,
-            };
-        }
-        if is_set(n, volatile::RST) {
-            let matched = is_set(self.volatile.flags, volatile::MATCH);
-            return Moved {
-                volatile: self.volatile.unlatched(n, matched),
-                pin: self.pin,
-            };
-        }
-        self.clock_counts(n)
+// CLK rises or falls and no programming is under way.
+pub(crate) fn clock(v: Volatile, image: &[u8], fuses: u8, pin: u8, n: u32) -> Moved
+    requires ready { Ready (given image.now fuses v) pin }
+    requires idle { digit 3 v.flags ≡ false }
+    requires line { bit_xor v.lines n ≡ 4 }
+    ensures { Moves (given image.now fuses v) pin n (Ok result) }
+{
+    if !is_set(n, volatile::CLK) {
+        return clock_falls(v, image, fuses, pin, n);
     }
+    if is_set(n, volatile::VCC) {
+        return Moved {
+            volatile: v.clock_rises(n),
+            pin,
+        };
+    }
+    Moved {
+        volatile: v.follows(n),
+        pin,
+    }
+}
 
-    // CLK rises or falls and no programming is under way.
-    pub(crate) fn clock(self, n: u32) -> Moved
-        requires idle { digit 3 self.volatile.flags ≡ false }
-        requires line { bit_xor self.volatile.lines n ≡ 4 }
-        ensures { Moves (held self.entry) self.entry.pin n (Ok result) }
-    {
-        if !is_set(n, volatile::CLK) {
-            return self.clock_falls(n);
-        }
-        if is_set(n, volatile::VCC) {
-            return Moved {
-                volatile: self.volatile.clock_rises(n),
-                pin: self.pin,
-            };
-        }
-        Moved {
-            volatile: self.volatile.follows(n),
-            pin: self.pin,
-        }
+// PGM rises or falls.
+pub(crate) fn program(
+    v: Volatile,
+    image: &[u8],
+    fuses: u8,
+    pin: u8,
+    n: u32,
+) -> Result<Moved, Refusal>
+    requires ready { Ready (given image.now fuses v) pin }
+    requires line { bit_xor v.lines n ≡ 8 }
+    ensures { Moves (given image.now fuses v) pin n result }
+{
+    if n & masks::VCC_CLK_PGM == masks::VCC_CLK_PGM {
+        return Err(Refusal::PGMRisesWithCLKHigh);
     }
+    Ok(Moved::read(v.follows(n), image, fuses))
+}
 
-    // PGM rises or falls.
-    fn program(self, n: u32) -> Result<Moved, Refusal>
-        requires { bit_xor self.volatile.lines n ≡ 8 }
-        ensures { Moves (held self.entry) self.entry.pin n result }
-    {
-        if n & masks::VCC_CLK_PGM == masks::VCC_CLK_PGM {
-            return Err(Refusal::PGMRisesWithCLKHigh);
-        }
-        Ok(Moved::read(self.volatile.follows(n), self.image, self.fuses))
+// RST rises or falls.
+pub(crate) fn reset(v: Volatile, image: &[u8], fuses: u8, pin: u8, n: u32) -> Result<Moved, Refusal>
+    requires ready { Ready (given image.now fuses v) pin }
+    requires line { bit_xor v.lines n ≡ 2 }
+    ensures { Moves (given image.now fuses v) pin n result }
+{
+    if is_set(v.flags, volatile::PROGRAMMING) {
+        return Err(Refusal::RSTOrFUSInProgramming);
     }
+    if n & masks::VCC_RST != 1 {
+        return Ok(Moved::read(v.follows(n), image, fuses));
+    }
+    if is_set(n, volatile::CLK) {
+        return Err(Refusal::RSTFallsWithCLKHigh);
+    }
+    Ok(Moved::read(v.reset_falls(n), image, fuses))
+}
 
-    // RST rises or falls.
-    fn reset(self, n: u32) -> Result<Moved, Refusal>
-        requires { bit_xor self.volatile.lines n ≡ 2 }
-        ensures { Moves (held self.entry) self.entry.pin n result }
-    {
-        if is_set(self.volatile.flags, volatile::PROGRAMMING) {
-            return Err(Refusal::RSTOrFUSInProgramming);
-        }
-        if n & masks::VCC_RST != 1 {
-            return Ok(Moved::read(self.volatile.follows(n), self.image, self.fuses));
-        }
-        if is_set(n, volatile::CLK) {
-            return Err(Refusal::RSTFallsWithCLKHigh);
-        }
-        Ok(Moved::read(self.volatile.reset_falls(n), self.image, self.fuses))
+// FUS rises or falls.
+pub(crate) fn fuse(v: Volatile, image: &[u8], fuses: u8, pin: u8, n: u32) -> Result<Moved, Refusal>
+    requires ready { Ready (given image.now fuses v) pin }
+    requires line { bit_xor v.lines n ≡ 32 }
+    ensures { Moves (given image.now fuses v) pin n result }
+{
+    if is_set(v.flags, volatile::PROGRAMMING) {
+        return Err(Refusal::RSTOrFUSInProgramming);
     }
+    Ok(Moved::read(v.follows(n), image, fuses))
+}
 
-    // FUS rises or falls.
-    fn fuse(self, n: u32) -> Result<Moved, Refusal>
-        requires { bit_xor self.volatile.lines n ≡ 32 }
-        ensures { Moves (held self.entry) self.entry.pin n result }
-    {
-        if is_set(self.volatile.flags, volatile::PROGRAMMING) {
-            return Err(Refusal::RSTOrFUSInProgramming);
-        }
-        Ok(Moved::read(self.volatile.follows(n), self.image, self.fuses))
+// VCC rises or falls.
+pub(crate) fn power(v: Volatile, image: &[u8], fuses: u8, pin: u8, n: u32) -> Result<Moved, Refusal>
+    requires ready { Ready (given image.now fuses v) pin }
+    requires line { bit_xor v.lines n ≡ 1 }
+    ensures { Moves (given image.now fuses v) pin n result }
+{
+    if !is_set(n, volatile::VCC) {
+        return Ok(Moved {
+            volatile: v.power_falls(n),
+            pin: volatile::RELEASED,
+        });
     }
+    if n & masks::CLK_PGM != 0 {
+        return Err(Refusal::VCCRisesWithCLKOrPGMHigh);
+    }
+    Ok(Moved::read(v.follows(n), image, fuses))
+}
 
-    // VCC rises or falls.
-    fn power(self, n: u32) -> Result<Moved, Refusal>
-        requires { bit_xor self.volatile.lines n ≡ 1 }
-        ensures { Moves (held self.entry) self.entry.pin n result }
-    {
-        if !is_set(n, volatile::VCC) {
-            return Ok(Moved {
-                volatile: self.volatile.power_falls(n),
-                pin: volatile::RELEASED,
-            });
-        }
-        if n & masks::CLK_PGM != 0 {
-            return Err(Refusal::VCCRisesWithCLKOrPGMHigh);
-        }
-        Ok(Moved::read(self.volatile.follows(n), self.image, self.fuses))
+// A step that turns over none of CLK, I/O and PGM.
+pub(crate) fn other_line(
+    v: Volatile,
+    image: &[u8],
+    fuses: u8,
+    pin: u8,
+    n: u32,
+) -> Result<Moved, Refusal>
+    requires ready { Ready (given image.now fuses v) pin }
+    requires clock { bit_xor v.lines n ≡ 4 → ⊥ }
+    requires io { bit_xor v.lines n ≡ 16 → ⊥ }
+    requires program { bit_xor v.lines n ≡ 8 → ⊥ }
+    ensures { Moves (given image.now fuses v) pin n result }
+{
+    if 63 < n {
+        return Err(Refusal::StepOver63);
     }
+    let d = v.lines ^ n;
+    if d == 0 {
+        return Ok(Moved { volatile: v, pin });
+    }
+    if d == 2 {
+        return reset(v, image, fuses, pin, n);
+    }
+    if d == 32 {
+        return fuse(v, image, fuses, pin, n);
+    }
+    if d == 1 {
+        return power(v, image, fuses, pin, n);
+    }
+    Err(Refusal::ManyLines)
+}
 
-    // A step that turns over none of CLK, I/O and PGM.
-    fn other_line(self, n: u32) -> Result<Moved, Refusal>
-        requires clock { bit_xor self.volatile.lines n ≡ 4 → ⊥ }
-        requires io { bit_xor self.volatile.lines n ≡ 16 → ⊥ }
-        requires program { bit_xor self.volatile.lines n ≡ 8 → ⊥ }
-        ensures { Moves (held self.entry) self.entry.pin n result }
-    {
-        if 63 < n {
-            return Err(Refusal::StepOver63);
-        }
-        let d = self.volatile.lines ^ n;
-        if d == 0 {
-            return Ok(Moved {
-                volatile: self.volatile,
-                pin: self.pin,
-            });
-        }
-        if d == 2 {
-            return self.reset(n);
-        }
-        if d == 32 {
-            return self.fuse(n);
-        }
-        if d == 1 {
-            return self.power(n);
-        }
-        Err(Refusal::ManyLines)
+// A step that does not turn over CLK.
+pub(crate) fn other_than_clock(
+    v: Volatile,
+    image: &[u8],
+    fuses: u8,
+    pin: u8,
+    n: u32,
+) -> Result<Moved, Refusal>
+    requires ready { Ready (given image.now fuses v) pin }
+    requires clock { bit_xor v.lines n ≡ 4 → ⊥ }
+    ensures { Moves (given image.now fuses v) pin n result }
+{
+    let d = v.lines ^ n;
+    if d == 16 {
+        return Ok(Moved {
+            volatile: v.follows(n),
+            pin,
+        });
     }
-
-    // A step that does not turn over CLK.
-    pub(crate) fn other_than_clock(self, n: u32) -> Result<Moved, Refusal>
-        requires { bit_xor self.volatile.lines n ≡ 4 → ⊥ }
-        ensures { Moves (held self.entry) self.entry.pin n result }
-    {
-        let d = self.volatile.lines ^ n;
-        if d == 16 {
-            return Ok(Moved {
-                volatile: self.volatile.follows(n),
-                pin: self.pin,
-            });
-        }
-        if d == 8 {
-            return self.program(n);
-        }
-        self.other_line(n)
+    if d == 8 {
+        return program(v, image, fuses, pin, n);
     }
+    other_line(v, image, fuses, pin, n)
 }

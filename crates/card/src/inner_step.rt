@@ -3,9 +3,8 @@ ghost use Rattle.volatile.specs.Packed.{given};
 ghost use Rattle.volatile.specs.Inner.{Ready};
 ghost use Rattle.card.specs.Moves.{Leaves};
 
-use crate::edges::Poised;
-use crate::in_programming;
 use crate::moved::Left;
+use crate::{edges, in_programming};
 use memory::is_set;
 use rules::Refusal;
 use volatile::Volatile;
@@ -21,21 +20,15 @@ pub(crate) fn step(
     requires { Ready (given image.old fuses v) pin }
     ensures { Leaves (given image.old fuses v) pin n result image.new }
 {
-    let card = Poised {
-        volatile: v,
-        image,
-        fuses,
-        pin,
-    };
     let d = v.lines ^ n;
     if d == 4 {
         if is_set(v.flags, volatile::PROGRAMMING) {
             return in_programming::clock(v, image, fuses, pin, n);
         }
-        return Ok(card.clock(n).with_fuses(fuses));
+        return Ok(edges::clock(v, image, fuses, pin, n).with_fuses(fuses));
     }
     if (d == 1) & is_set(v.flags, volatile::PROGRAMMING) {
         return Ok(in_programming::power(v, fuses, n));
     }
-    Ok(card.other_than_clock(n)?.with_fuses(fuses))
+    Ok(edges::other_than_clock(v, image, fuses, pin, n)?.with_fuses(fuses))
 }

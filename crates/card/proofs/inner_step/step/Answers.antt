@@ -12,7 +12,7 @@ clock-requires c =
 
 pub clock-requires-then-d-eq4 : goal.clock-requires-then-d-eq4
 clock-requires-then-d-eq4 c =
-    record { idle = sym c.is_set.ensures ∙ c.if-is_set.false; line = c.if-d-eq4.true }
+    record { ready = c.requires; idle = sym c.is_set.ensures ∙ c.if-is_set.false; line = c.if-d-eq4.true }
 
 pub returns-then-d-eq4 : goal.returns-then-d-eq4
 returns-then-d-eq4 c = rw c.with_fuses.ensures c.clock-then-d-eq4.ensures

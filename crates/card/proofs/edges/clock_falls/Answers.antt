@@ -5,15 +5,15 @@ use Rattle.volatile.specs.Packed.{unpacked}
 use Rattle.edge_laws.proofs.ByLine.{turned, address_within, keeps}
 use Rattle.edge_laws.proofs.ByLine.{clk_unpowered, clk_unpowered_kept, clk_reset, clk_reset_kept, clk_counts}
 use Rattle.card.proofs.Walks.{walks}
-use Rattle.card.proofs.edges.Poised.clock_falls.Goals as goal
+use Rattle.card.proofs.edges.clock_falls.Goals as goal
 
 pub overflow_add-a : goal.overflow_add-a
-overflow_add-a c = omega (arith, address_within c.args.self.ready)
+overflow_add-a c = omega (arith, address_within c.requires.ready)
 
 pub returns : goal.returns
 unfolding high place mask unpacked
 returns c =
-    let ready = c.args.self.ready in
+    let ready = c.requires.ready in
     let idle = c.requires.idle in
     let t = turned ready _ CLK c.requires.line in
     let down = c.requires.low in
@@ -23,7 +23,7 @@ returns c =
 pub returns-then-not-is_set : goal.returns-then-not-is_set
 unfolding high place mask unpacked
 returns-then-not-is_set c =
-    let ready = c.args.self.ready in
+    let ready = c.requires.ready in
     let idle = c.requires.idle in
     let t = turned ready _ CLK c.requires.line in
     let down = c.requires.low in
@@ -33,7 +33,7 @@ returns-then-not-is_set c =
 pub returns-then-is_set : goal.returns-then-is_set
 unfolding high place mask unpacked
 returns-then-is_set c =
-    let ready = c.args.self.ready in
+    let ready = c.requires.ready in
     let idle = c.requires.idle in
     let t = turned ready _ CLK c.requires.line in
     let down = c.requires.low in
@@ -42,10 +42,14 @@ returns-then-is_set c =
     rw (c.unlatched.ensures, c.is_set-matched.ensures)
     (keeps ready _ (clk_reset ready _ t vcc down idle rst) (clk_reset_kept ready _ t vcc down idle rst))
 
+pub clock_counts-requires : goal.clock_counts-requires
+clock_counts-requires c =
+    address_within c.requires.ready
+
 pub returns-2 : goal.returns-2
 unfolding high place mask unpacked
 returns-2 c =
-    let ready = c.args.self.ready in
+    let ready = c.requires.ready in
     let idle = c.requires.idle in
     let t = turned ready _ CLK c.requires.line in
     let down = c.requires.low in

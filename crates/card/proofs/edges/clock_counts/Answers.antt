@@ -1,10 +1,6 @@
 use Rattle.volatile.proofs.Packing.{unpacked_packed}
-use Rattle.edge_laws.proofs.ByLine.{address_within}
 use Rattle.card.proofs.HandedOn.{clocks}
-use Rattle.card.proofs.edges.Poised.clock_counts.Goals as goal
-
-pub following-requires : goal.following-requires
-following-requires c = address_within c.args.self.ready
+use Rattle.card.proofs.edges.clock_counts.Goals as goal
 
 pub returns : goal.returns
 returns c =
