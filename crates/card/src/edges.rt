@@ -1,6 +1,6 @@
 // What each line does when it rises or falls, where image and fuses stay: all but CLK and VCC while programming is under way.
-// Half, image, fuses and pin are handed on one by one. Held in one struct with `Ready` as its ghost field, which proves, a run of writes
-// counts 59.5 instructions a step in the place of 53.0, more than the model's 58.1.
+// Half, image, fuses and pin are handed on one by one, here, in `in_programming` and in `inner_step`. Held in one struct with `Ready` as its
+// ghost field, which proves, a run of writes counts 59.5 instructions a step in the place of 52.4, more than the model's 58.1.
 ghost use Rattle.std.specs.Prelude.{◌≡◌, false, ◌≤◌, Ok};
 ghost use Rattle.std.specs.Int.Bits.{bit_xor};
 ghost use Rattle.memory.specs.Image.{digit};

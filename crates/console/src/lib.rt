@@ -132,7 +132,8 @@ impl<'a, W: io::Write, E: io::Write> Console<'a, W, E> {
         self.output == Output::Open
     }
 
-    // Standard input. Each program asks for it by itself, after `is_open`, since its buffer has a size of its own.
+    // Standard input. Each program asks for it by itself, after `is_open`: a call for both would hand back a part of the buffer or nothing, by
+    // four clauses, in the place of two tests.
     pub fn read_input<R: io::Read>(
         &mut self,
         from: &mut R,

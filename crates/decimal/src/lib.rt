@@ -15,7 +15,7 @@ pub fn places(x: usize) -> usize
     x.max(1).ilog10() as usize + 1
 }
 
-// The last decimal digit of x.
+// The last decimal digit of x, by hand as `put_decimal`.
 #[tactic(auto, unfolding(crate::specs::Decimal::digit))]
 pub fn put_digit(to: &mut Filling, x: usize)
     ensures { Filled to.old (digit x ∷ []) to.new }

@@ -59,7 +59,7 @@ pub extern "C" fn zhav_fresh() -> Volatile
     Volatile::fresh()
 }
 
-// A walk and a step in these numbers.
+// A walk in these numbers. It has two arguments, so it is no `From`.
 fn of_walk(w: Walked, fuses: u8) -> ZhavStepped
     ensures { result ≡ of_walk w fuses }
 {

@@ -67,7 +67,8 @@ pub fn fill_part(image: &mut [u8], first: usize, count: usize, v: u8)
     }
 }
 
-// The bytes from `at` on, as far as there is room, and the place behind them. `lent::Filling` keeps the place between two of these.
+// The bytes from `at` on, as far as there is room, and the place behind them. `lent::Filling` keeps the place between two of
+// these, and is made of it.
 pub fn put(out: &mut [u8], at: usize, bytes: &[u8]) -> usize
     ensures { Put out.old at bytes.now result out.new }
 {

@@ -37,7 +37,7 @@ fn byte_of(x: u64, k: usize) -> u8
     }
 }
 
-// The last bytes of x, as far as there is room.
+// The last bytes of x, as far as there is room. A text may give more of them than x has, so that `to_be_bytes` is no plainer.
 fn put_bytes(x: u64, count: usize, image: &mut [u8], first: usize)
     ensures { image.new ≡ sets image.old first (bytes_of count x) }
 {

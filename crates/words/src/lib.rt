@@ -142,7 +142,7 @@ pub enum Level {
     Zeros,
 }
 
-// The zones of the data sheet that a text may name.
+// The zones of the data sheet that a text may name: ten of the fifteen of `rules`, which nothing here stands on.
 #[derive(Clone, Copy, Debug, PartialEq, Eq)]
 pub enum Zone {
     FZ,
