@@ -52,6 +52,7 @@ fn tell(out: &mut Standard, source: &[u8], recorded: &[u8]) {
         }
         Err(wrong) => {
             let mut said = [0u8; 84];
+            // As `assemble` tells it, among what else is said here.
             let fault = wrong.fault.number();
             if let Some(n) = text_errors::error_line(wrong.line, fault, &mut said) {
                 out.say(&said[..n])

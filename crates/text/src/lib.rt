@@ -9,7 +9,7 @@ mod reading;
 mod session;
 mod sheet;
 
-// The first wrong line and its fault; line 0 where it is no line's.
+// The first wrong line and its fault; line 0 where it is no line's, since an error's line tells that number.
 #[derive(Clone, Copy, Debug, PartialEq, Eq)]
 pub struct Wrong {
     pub line: usize,

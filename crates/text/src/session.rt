@@ -18,6 +18,7 @@ pub(crate) fn write(sheet: &Sheet, out: &mut [u8]) -> usize
     let mut to = Filling::of(out);
     to.put(&[BYTES, 0]);
     to.put(&sheet.image);
+    // Two bytes, low first, among three others: in the definition's words.
     to.put(&[1, 0, sheet.fuses, (n % 256) as u8, (n / 256) as u8]);
     to.put(&sheet.steps[..n]);
     to.at

@@ -43,6 +43,7 @@ fn tell_reason(out: &mut Standard, told: Result<Reason, Refusal>) {
     }
 }
 
+// The words of report's four lines, which go into a buffer of a known length there.
 fn tell_run(out: &mut Standard, ran: Ran, given: usize) {
     out.say(b"done ");
     out.number(ran.done as u64);
@@ -53,6 +54,7 @@ fn tell_run(out: &mut Standard, ran: Ran, given: usize) {
     out.say(b"\n");
 }
 
+// As the session program's, with the reason of the state that the run leaves, which `fresh_run` doesn't hand out.
 fn answer(out: &mut Standard, session: &[u8]) {
     let mut memory = [0u8; rules::BYTES];
     match file::open_session(session, &mut memory) {
