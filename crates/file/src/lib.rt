@@ -30,7 +30,7 @@ fn copy_memory(file: &[u8], memory: &mut [u8])
     requires bytes_in_bounds { 2 + bytes ≤ length file.now }
     ensures { memory.new ≡ memory_section file.now }
 {
-    memory.copy_from_slice(&file[rules::MEMORY_AT..rules::FUSE_COUNT_AT]);
+    memory::put(memory, 0, &file[rules::MEMORY_AT..rules::FUSE_COUNT_AT]);
 }
 
 #[tactic(auto, using(file_refusals::proofs::Refusals::whole_card), unfolding(rules::specs::Numbers::numbered, rules::specs::Numbers::number_in, rules::specs::Numbers::refused, crate::specs::Opening::card_answer, crate::specs::Opening::in_memory))]

@@ -1,13 +1,14 @@
 -- Bytes put one behind the other, and what they come to at the start of a buffer.
-use Prim.Native.Nat.{ℕ, suc, min, ◌+◌, ◌-◌, ◌≤◌, ◌<◌}
+use Prim.Native.Nat.{ℕ, suc, ◌+◌, ◌≤◌, ◌<◌}
 use native.Mathlib.Nat.{add-zero, zero-add}
+use native.Mathlib.Numerals.{add-one}
 use native.Mathlib.Omega.{arith}
-use native.Mathlib.Decide.{dec_lt, dec_le}
+use native.Mathlib.Decide.{dec_lt}
 use mathlib.Core.Path.{◌≡◌, refl, sym, ap, ◌∙◌}
 use mathlib.Core.List.{List, [], ◌∷◌, ◌++◌, append-nil}
 use lib.ListN.{length, set, take, drop, length-append, drop_of_length-le}
-use lib.Seq.{sets, sets-eq, set_out, length-sets, take_at, take_all, paste, length-take-le}
-use Rattle.std.proofs.Common.{take-append-drop}
+use lib.Seq.{sets, sets-eq, set_out, length-sets, take_at, take-suc}
+use Rattle.std.proofs.Common.{take-append-drop, slice_index_or}
 use Rattle.memory.specs.Buffer.{Put}
 
 sets_append : (l : List ℕ) (i : ℕ) (a b : List ℕ) → sets (sets l i a) (i + length a) b ≡ sets l i (a ++ b)
@@ -24,32 +25,11 @@ sets_out l i (x ∷ a) h = rw (set_out l i x h) (sets_out l (suc i) a (omega ari
 pub no_room : {l : List ℕ} {at : ℕ} (a : List ℕ) → length l ≤ at → Put l at a at l
 no_room {l} {at} a h = record { place = omega arith; stored = sym (sets_out l at a h) }
 
--- Bytes without room are not put, those before them are.
-cut : (l : List ℕ) (at k : ℕ) (a : List ℕ) → k ≤ length a → length l ≤ at + k → sets l at a ≡ sets l at (take k a)
-cut l at k a h full =
-    let past : length (sets l at (take k a)) ≤ at + length (take k a) = omega (arith, length-sets l at (take k a), length-take-le k a h) in
-    sym (ap (sets l at) (take-append-drop k a)) ∙ (sym (sets_append l at (take k a) (drop k a)) ∙ sets_out _ _ (drop k a) past)
-
--- As many bytes as there is room for, put at once.
-pub part_put :
-    (l : List ℕ) (at k : ℕ) (a : List ℕ) {m : List ℕ} → at ≤ length l → k ≡ min (length a) (length l - at) → m ≡ paste l at (take k a) k →
-    Put l at a (at + k) m
-part_put l at k a {m} h e s = record { place = ap (λ n. at + n) e; stored = s ∙ (front ∙ go (dec_le (length a) k)) }
-  where
-    short : length (take k a) ≡ k
-    short = length-take-le k a (omega (arith, e))
-
-    front : paste l at (take k a) k ≡ sets l at (take k a)
-    front =
-        ap (λ t. take at l ++ t ++ drop (at + k) l) (take_all k (take k a) (omega (arith, short))) ∙
-        (ap (λ n. take at l ++ take k a ++ drop (at + n) l) (sym short) ∙ sym (sets-eq (take k a) l at (omega (arith, e, short))))
-
-    go : Dec (length a ≤ k) → sets l at (take k a) ≡ sets l at a
-    go (yes all) = ap (sets l at) (take_all k a all)
-    go (no some) = sym (cut l at k a (omega (arith, e)) (omega (arith, e)))
-
 pub nothing_put : (l : List ℕ) (at : ℕ) → Put l at [] at l
 nothing_put l at = record { place = omega arith; stored = refl }
+
+one_put : (l : List ℕ) (at x : ℕ) → at < length l → Put l at (x ∷ []) (at + 1) (set l at x)
+one_put l at x h = record { place = omega arith; stored = refl }
 
 module _ {l m : List ℕ} {at n : ℕ} {a : List ℕ} (p : Put l at a n m) where
   pub same_room : length m ≡ length l
@@ -73,6 +53,16 @@ module _ {l m : List ℕ} {at n : ℕ} {a : List ℕ} (p : Put l at a n m) where
         place = omega (arith, p.place, q.place, same_room, length-append a b);
         stored = q.stored ∙ (behind b ∙ rw p.stored (sets_append l at a b));
       }
+
+-- The first k bytes are put: where there is no room behind them they are all that is, else one more follows.
+module _ {l m : List ℕ} {at n : ℕ} (a : List ℕ) (k : ℕ) (p : Put l at (take k a) n m) where
+  pub all_put : length m ≤ n → Put l at a n m
+  all_put h = rw (take-append-drop k a) at (then p (no_room (drop k a) h))
+
+  pub one_more : k < length a → n < length m → Put l at (take (k + 1) a) (n + 1) (set m n (slice_index_or a k 0))
+  one_more h room =
+      let next : take (k + 1) a ≡ take k a ++ (slice_index_or a k 0 ∷ []) = rw add-one (take-suc a k 0 h) in
+      rw (sym next) at (then p (one_put m n (slice_index_or a k 0) room))
 
 -- Bytes that fit stand at the start of the buffer.
 module _ {bytes before after : List ℕ} {n : ℕ} (h : length bytes ≤ length before) (p : Put before 0 bytes n after) where

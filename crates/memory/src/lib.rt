@@ -1,7 +1,7 @@
 // The leaves on a lent image, and bytes put into a lent buffer. A byte past the end reads 0, and a store there does nothing.
 #![tactic(auto)]
 
-ghost use Rattle.std.specs.Prelude.{◌≡◌, set};
+ghost use Rattle.std.specs.Prelude.{◌≡◌, length, replicate, set};
 ghost use Rattle.memory.specs.Image.{digit, bit, written, erased_word, filled};
 ghost use Rattle.memory.specs.Buffer.{Put};
 
@@ -56,13 +56,23 @@ pub fn erase_word(image: &mut [u8], a: usize)
     store(image, i + 1, 255);
 }
 
+// Every byte of a part takes the value v. By hand, so that a slip in its first byte is refused for what it says and not for its form.
+fn fill(part: &mut [u8], v: u8)
+    ensures { part.new ≡ replicate (length part.old) v }
+{
+    for i in 0..part.len() {
+        part[i] = v;
+    }
+}
+
 // count bytes from byte first on take the value v.
+#[tactic(auto, using(crate::proofs::Laws::put_filled, crate::proofs::Laws::not_filled))]
 pub fn fill_part(image: &mut [u8], first: usize, count: usize, v: u8)
     ensures { image.new ≡ filled first count v image.old }
 {
     if first <= image.len() {
         if count <= image.len() - first {
-            image[first..first + count].fill(v);
+            fill(&mut image[first..first + count], v);
         }
     }
 }
@@ -72,10 +82,13 @@ pub fn fill_part(image: &mut [u8], first: usize, count: usize, v: u8)
 pub fn put(out: &mut [u8], at: usize, bytes: &[u8]) -> usize
     ensures { Put out.old at bytes.now result out.new }
 {
-    if out.len() <= at {
-        return at;
+    let mut next = at;
+    for b in bytes {
+        if out.len() <= next {
+            return next;
+        }
+        out[next] = *b;
+        next += 1;
     }
-    let count = bytes.len().min(out.len() - at);
-    out[at..at + count].copy_from_slice(&bytes[..count]);
-    at + count
+    next
 }
