@@ -1,7 +1,8 @@
-// The words of a text, and what a word can stand for: a name of the table, or a number.
+// The words of a text, and what a word can stand for: a name of the tables, or a number.
 #![tactic(auto)]
 
-ghost use Rattle.std.specs.Prelude.{◌≡◌, ◌≤◌, ◌<◌, IfSome};
+ghost use Rattle.std.specs.Prelude.{◌≡◌, ◌≤◌, ◌<◌, IfSome, bytes_eq, option_map};
+ghost use Rattle.std.specs.List.{find};
 ghost use Rattle.words.specs.Scan.{stops_at, ahead_of, up_to, from, first_word, after_word};
 ghost use Rattle.words.specs.Numbers.{digit_in, digit_of, number_from, number_of};
 ghost use Rattle.words.specs.Names.{row_in, row_of};
@@ -165,47 +166,70 @@ pub enum Name {
     Zone(Zone),
 }
 
-// A `match` on the bytes would leave a goal for each byte of each name.
-const NAMES: [(&str, Name); 31] = [
-    ("reset", Name::Verb(Verb::Reset)),
-    ("write", Name::Verb(Verb::Write)),
-    ("erase", Name::Verb(Verb::Erase)),
-    ("blow", Name::Verb(Verb::Blow)),
-    ("power", Name::Verb(Verb::Power)),
-    ("fus", Name::Verb(Verb::Fus)),
-    ("image", Name::Verb(Verb::Image)),
-    ("cut", Name::Verb(Verb::Cut)),
-    ("walk", Name::Verb(Verb::Walk)),
-    ("lines", Name::Verb(Verb::Lines)),
-    ("fuses", Name::Verb(Verb::Fuses)),
-    ("show", Name::Verb(Verb::Show)),
-    ("open", Name::Verb(Verb::Open)),
-    ("byte", Name::Verb(Verb::Byte)),
-    ("zone", Name::Verb(Verb::Zone)),
+// The names by their lengths, so that a word is held against few of them: a long text looks up one or two a line.
+const OF_TWO: [(&str, Name); 7] = [
     ("on", Name::Level(Level::On)),
-    ("off", Name::Level(Level::Off)),
-    ("high", Name::Level(Level::High)),
-    ("low", Name::Level(Level::Low)),
-    ("ones", Name::Level(Level::Ones)),
-    ("zeros", Name::Level(Level::Zeros)),
     ("FZ", Name::Zone(Zone::FZ)),
     ("IZ", Name::Zone(Zone::IZ)),
     ("SC", Name::Zone(Zone::SC)),
-    ("SCAC", Name::Zone(Zone::SCAC)),
-    ("CPZ", Name::Zone(Zone::CPZ)),
     ("AZ", Name::Zone(Zone::AZ)),
     ("EZ", Name::Zone(Zone::EZ)),
     ("EC", Name::Zone(Zone::EC)),
+];
+
+const OF_THREE: [(&str, Name); 7] = [
+    ("fus", Name::Verb(Verb::Fus)),
+    ("cut", Name::Verb(Verb::Cut)),
+    ("off", Name::Level(Level::Off)),
+    ("low", Name::Level(Level::Low)),
+    ("CPZ", Name::Zone(Zone::CPZ)),
     ("MTZ", Name::Zone(Zone::MTZ)),
     ("MFZ", Name::Zone(Zone::MFZ)),
 ];
 
-// The name that a word is, if it is one.
-pub fn name_of(w: &[u8]) -> Option<Name>
-    ensures { row_in result ≡ row_of w.now }
+const OF_FOUR: [(&str, Name); 9] = [
+    ("blow", Name::Verb(Verb::Blow)),
+    ("walk", Name::Verb(Verb::Walk)),
+    ("show", Name::Verb(Verb::Show)),
+    ("open", Name::Verb(Verb::Open)),
+    ("byte", Name::Verb(Verb::Byte)),
+    ("zone", Name::Verb(Verb::Zone)),
+    ("high", Name::Level(Level::High)),
+    ("ones", Name::Level(Level::Ones)),
+    ("SCAC", Name::Zone(Zone::SCAC)),
+];
+
+const OF_FIVE: [(&str, Name); 8] = [
+    ("reset", Name::Verb(Verb::Reset)),
+    ("write", Name::Verb(Verb::Write)),
+    ("erase", Name::Verb(Verb::Erase)),
+    ("power", Name::Verb(Verb::Power)),
+    ("image", Name::Verb(Verb::Image)),
+    ("lines", Name::Verb(Verb::Lines)),
+    ("fuses", Name::Verb(Verb::Fuses)),
+    ("zeros", Name::Level(Level::Zeros)),
+];
+
+// The name that a word is among these. Where the table is known, its rows become compares with constants.
+#[inline(always)]
+fn name_in(names: &[(&str, Name)], w: &[u8]) -> Option<Name>
+    ensures { result ≡ option_map (λ p. p.1) (find (λ p. bytes_eq p.0.now w.now) names.now) }
 {
-    NAMES
+    names
         .iter()
         .find(|(text, _)| text.as_bytes() == w)
         .map(|(_, name)| *name)
+}
+
+// The name that a word is, if it is one. A `match` on the bytes would leave a goal for each byte of each name.
+pub fn name_of(w: &[u8]) -> Option<Name>
+    ensures { row_in result ≡ row_of w.now }
+{
+    match w.len() {
+        2 => name_in(&OF_TWO, w),
+        3 => name_in(&OF_THREE, w),
+        4 => name_in(&OF_FOUR, w),
+        5 => name_in(&OF_FIVE, w),
+        _ => None,
+    }
 }

@@ -1,17 +1,23 @@
-use Rattle.std.proofs.Common.{rules, tests, refl, Bool}
-use Rattle.std.proofs.lemmas.Iterator.Search.{find_from_yields_List}
-use Rattle.std.proofs.lemmas.Iterator.{YieldsList-from_slice}
-use Rattle.std.specs.Str.{bytes_eq}
-use Rattle.words.proofs.Table.{Line, in_rows, taken, found}
-use Rattle.words.specs.Names.{bytes_of, names, row, verb_row, level_row, zone_row, row_of}
+use Rattle.std.proofs.Common.{rules, refl}
+use Rattle.words.proofs.Table.{rows_of_length, found_beside, row_of_length, none_of_length}
+use Rattle.words.specs.Names.{names, row}
 use Rattle.words.proofs.name_of.Goals as goal
 
-pub returns : goal.returns
-unfolding row_of names bytes_of in_rows row verb_row level_row zone_row
-returns c =
-    let test : Line → Bool = λ p. bytes_eq p.0.now c.args.w.now in
-    let first =
-    find_from_yields_List test _ _ c.find.result c.find.ensures.ran (YieldsList-from_slice c.iter.result.rest.now cc)
-    (λ x b q k. search (rules, tests)) in
-    let its_name = taken c.find.result c.map.result c.map.ensures.cases (λ x n q. search (rules, tests)) in
-    rw (its_name, first) (found c.args.w.now _ _ c.iter.ensures.rest refl)
+pub returns-in-2 : goal.returns-in-2
+unfolding names row rows_of_length
+returns-in-2 c = rw (c.name_in.ensures, found_beside c.args.w.now _) (row_of_length _ _ c.in-2.is refl)
+
+pub returns-in-3 : goal.returns-in-3
+unfolding names row rows_of_length
+returns-in-3 c = rw (c.name_in-in-3.ensures, found_beside c.args.w.now _) (row_of_length _ _ c.in-3.is refl)
+
+pub returns-in-4 : goal.returns-in-4
+unfolding names row rows_of_length
+returns-in-4 c = rw (c.name_in-in-4.ensures, found_beside c.args.w.now _) (row_of_length _ _ c.in-4.is refl)
+
+pub returns-in-5 : goal.returns-in-5
+unfolding names row rows_of_length
+returns-in-5 c = rw (c.name_in-in-5.ensures, found_beside c.args.w.now _) (row_of_length _ _ c.in-5.is refl)
+
+pub returns-in_default : goal.returns-in_default
+returns-in_default c = search (rules, none_of_length)
