@@ -18,6 +18,8 @@ use std::rt::Env;
 pub struct Unreadable;
 
 impl From<io::Error> for Unreadable {
+    ghost from_gives = { λ e r. r ≡ record {} };
+
     fn from(_error: io::Error) -> Unreadable {
         Unreadable
     }
@@ -103,6 +105,98 @@ fn has_argument<R: Env>(rt: &R) -> bool {
     !matches!(rt.arg(1, &mut start), Err(FillError::NotPresent))
 }
 
+// Standard input. An input that cannot be read is told.
+pub fn read_input<R: io::Read, E: io::Write>(
+    from: &mut R,
+    errors: &mut E,
+    program: &[u8],
+    into: &mut [u8],
+) -> Result<usize, Unreadable>
+    ensures taken { Taken result into.new }
+    ensures consumed { Consumed result (R.remaining from.old) (R.remaining from.new) into.new }
+    ensures told { InputTold result (E.contents errors.old) (E.contents errors.new) program.now }
+{
+    let read = read_full(from, into);
+    if read.is_err() {
+        tell(errors, program, b"standard input cannot be read", b"");
+    }
+    read
+}
+
+// The output of a program, which takes no arguments.
+pub fn start<R: Env, E: io::Write>(rt: &R, errors: &mut E, program: &[u8]) -> Output
+    ensures not_lost { NotLost result }
+    ensures told { StartTold result (E.contents errors.old) (E.contents errors.new) program.now }
+{
+    if !has_argument(rt) {
+        return Output::Open;
+    }
+    tell(errors, program, b"takes no arguments", b"");
+    Output::Stopped
+}
+
+impl Output {
+    pub fn say<W: io::Write>(self, to: &mut W, text: &[u8]) -> Output
+        ensures said { Said self result }
+        ensures written { Written self result (W.contents to.old) (W.contents to.new) text.now }
+    {
+        let Output::Open = self else {
+            return self;
+        };
+        match write_whole(to, text) {
+            Ok(()) => Output::Open,
+            Err(_) => Output::Lost,
+        }
+    }
+
+    pub fn number<W: io::Write>(self, to: &mut W, n: u64) -> Output
+        ensures said { Said self result }
+        ensures written { Written self result (W.contents to.old) (W.contents to.new) (decimal n) }
+    {
+        let mut digits = [0u8; 20];
+        let mut text = Filling::of(&mut digits);
+        decimal::put_decimal(&mut text, n as usize);
+        self.say(to, text.so_far())
+    }
+
+    // Tells why the program stops, unless it stopped before or the output is lost, which `end` tells.
+    #[tactic(auto, unfolding(crate::specs::Ends::stopped))]
+    pub fn stop<E: io::Write>(
+        self,
+        errors: &mut E,
+        program: &[u8],
+        what: &[u8],
+        which: &[u8],
+    ) -> Output
+        ensures state { result ≡ stopped self }
+        ensures told { StopTold self (E.contents errors.old) (E.contents errors.new) (told_line program.now what.now which.now) }
+    {
+        match self {
+            Output::Open => {
+                tell(errors, program, what, which);
+                Output::Stopped
+            }
+            Output::Lost => Output::Lost,
+            Output::Stopped => Output::Stopped,
+        }
+    }
+
+    // Tells of an output that is lost, once.
+    #[tactic(auto, unfolding(crate::specs::Ends::ended))]
+    pub fn end<E: io::Write>(self, errors: &mut E, program: &[u8]) -> Output
+        ensures state { result ≡ ended self }
+        ensures told { EndTold self (E.contents errors.old) (E.contents errors.new) program.now }
+    {
+        match self {
+            Output::Lost => {
+                tell(errors, program, b"standard output cannot be written", b"");
+                Output::Stopped
+            }
+            Output::Open | Output::Stopped => self,
+        }
+    }
+}
+
 impl<'a, W: io::Write, E: io::Write> Console<'a, W, E> {
     pub fn start<R: Env>(
         rt: &R,
@@ -114,16 +208,13 @@ impl<'a, W: io::Write, E: io::Write> Console<'a, W, E> {
         ensures told { StartTold result.output (E.contents errors.old) (E.contents result.errors.now) program.now }
         ensures lent { (result.to ≡ to.entry) × (result.errors.ghost_name ≡ errors.entry.ghost_name) × (result.program ≡ program.entry) }
     {
-        let mut out = Console {
+        let output = start(rt, errors, program);
+        Console {
             to,
             errors,
             program,
-            output: Output::Open,
-        };
-        if has_argument(rt) {
-            out.stop(b"takes no arguments", b"");
+            output,
         }
-        out
     }
 
     pub fn is_open(&self) -> bool
@@ -144,16 +235,7 @@ impl<'a, W: io::Write, E: io::Write> Console<'a, W, E> {
         ensures told { InputTold result (E.contents self.old.errors.now) (E.contents self.new.errors.now) self.old.program.now }
         ensures kept { (self.new.to ≡ self.old.to) × (self.new.errors.ghost_name ≡ self.old.errors.ghost_name) × (self.new.program ≡ self.old.program) × (self.new.output ≡ self.old.output) }
     {
-        let read = read_full(from, into);
-        if read.is_err() {
-            tell(
-                self.errors,
-                self.program,
-                b"standard input cannot be read",
-                b"",
-            );
-        }
-        read
+        read_input(from, self.errors, self.program, into)
     }
 
     pub fn say(&mut self, text: &[u8])
@@ -161,9 +243,7 @@ impl<'a, W: io::Write, E: io::Write> Console<'a, W, E> {
         ensures written { Written self.old.output self.new.output (W.contents self.old.to.now) (W.contents self.new.to.now) text.now }
         ensures kept { (self.new.to.ghost_name ≡ self.old.to.ghost_name) × (self.new.errors ≡ self.old.errors) × (self.new.program ≡ self.old.program) }
     {
-        if self.is_open() && write_whole(self.to, text).is_err() {
-            self.output = Output::Lost;
-        }
+        self.output = self.output.say(self.to, text);
     }
 
     pub fn number(&mut self, n: u64)
@@ -171,40 +251,22 @@ impl<'a, W: io::Write, E: io::Write> Console<'a, W, E> {
         ensures written { Written self.old.output self.new.output (W.contents self.old.to.now) (W.contents self.new.to.now) (decimal n) }
         ensures kept { (self.new.to.ghost_name ≡ self.old.to.ghost_name) × (self.new.errors ≡ self.old.errors) × (self.new.program ≡ self.old.program) }
     {
-        let mut digits = [0u8; 20];
-        let mut to = Filling::of(&mut digits);
-        decimal::put_decimal(&mut to, n as usize);
-        self.say(to.so_far());
+        self.output = self.output.number(self.to, n);
     }
 
-    // Tells why the program stops, unless it stopped before or the output is lost, which `end` tells.
-    #[tactic(auto, using(crate::proofs::Laws::stops, crate::proofs::Laws::stands))]
     pub fn stop(&mut self, what: &[u8], which: &[u8])
         ensures state { self.new.output ≡ stopped self.old.output }
         ensures told { StopTold self.old.output (E.contents self.old.errors.now) (E.contents self.new.errors.now) (told_line self.old.program.now what.now which.now) }
         ensures kept { (self.new.to ≡ self.old.to) × (self.new.errors.ghost_name ≡ self.old.errors.ghost_name) × (self.new.program ≡ self.old.program) }
     {
-        if self.is_open() {
-            tell(self.errors, self.program, what, which);
-            self.output = Output::Stopped;
-        }
+        self.output = self.output.stop(self.errors, self.program, what, which);
     }
 
-    // Tells of an output that is lost, once.
-    #[tactic(auto, using(crate::proofs::Laws::ends, crate::proofs::Laws::is_ended))]
     pub fn end(&mut self)
         ensures state { self.new.output ≡ ended self.old.output }
         ensures told { EndTold self.old.output (E.contents self.old.errors.now) (E.contents self.new.errors.now) self.old.program.now }
         ensures kept { (self.new.to ≡ self.old.to) × (self.new.errors.ghost_name ≡ self.old.errors.ghost_name) × (self.new.program ≡ self.old.program) }
     {
-        if self.output == Output::Lost {
-            tell(
-                self.errors,
-                self.program,
-                b"standard output cannot be written",
-                b"",
-            );
-            self.output = Output::Stopped;
-        }
+        self.output = self.output.end(self.errors, self.program);
     }
 }
