@@ -2,6 +2,8 @@
 // Then each error of a text.
 #![tactic(auto)]
 
+ghost use Rattle.std.specs.Prelude.{◌≤◌, length, IfOk};
+
 use console::{Console, Standard, Unreadable};
 use std::fs;
 use std::rt::Files;
@@ -33,7 +35,9 @@ const WRONG: [&[u8]; 9] = [
     &[10u8; 65537],
 ];
 
-fn read<'a, F: Files>(files: &F, path: &str, into: &'a mut [u8]) -> Result<&'a [u8], Unreadable> {
+fn read<'a, F: Files>(files: &F, path: &str, into: &'a mut [u8]) -> Result<&'a [u8], Unreadable>
+    ensures { IfOk result (λ part. length part.now ≤ length into.old) }
+{
     let mut file = fs::open(files, path)?;
     let n = console::read_full(&mut file, into)?;
     Ok(&into[..n])

@@ -2,6 +2,8 @@
 // text, each after its length, two bytes, low first. The counts are printed only of an input that is whole records to its end.
 #![tactic(auto)]
 
+ghost use Rattle.std.specs.Prelude.{◌≡◌, ◌≤◌, length, IfOk, IfSome};
+
 use console::{Console, Standard, Unreadable};
 use memory::lent::Filling;
 use std::io;
@@ -24,7 +26,9 @@ impl From<Unreadable> for Fault {
 }
 
 // A part of a record, whose length has come.
-fn body<'a, R: io::Read>(from: &mut R, n: usize, buffer: &'a mut [u8]) -> Result<&'a [u8], Fault> {
+fn body<'a, R: io::Read>(from: &mut R, n: usize, buffer: &'a mut [u8]) -> Result<&'a [u8], Fault>
+    ensures { IfOk result (λ part. (length part.now ≡ n) × (n ≤ length buffer.old)) }
+{
     if buffer.len() < n {
         return Err(Fault::TooLong);
     }
@@ -37,10 +41,9 @@ fn body<'a, R: io::Read>(from: &mut R, n: usize, buffer: &'a mut [u8]) -> Result
 }
 
 // The next part of a record, or none where the input ends before its length.
-fn next_part<'a, R: io::Read>(
-    from: &mut R,
-    buffer: &'a mut [u8],
-) -> Result<Option<&'a [u8]>, Fault> {
+fn next_part<'a, R: io::Read>(from: &mut R, buffer: &'a mut [u8]) -> Result<Option<&'a [u8]>, Fault>
+    ensures { IfOk result (λ next. IfSome next (λ part. length part.now ≤ length buffer.old)) }
+{
     let mut length = [0u8; 2];
     match console::read_full(from, &mut length)? {
         0 => Ok(None),
