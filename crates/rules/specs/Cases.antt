@@ -12,6 +12,7 @@ use Rattle.rules.specs.CasesSteps.{line_cases, start_cases, cut_cases, arrival_c
 use Rattle.rules.specs.CasesRights.{zone_cases, erase_cases, image_cases, program_cases, operation_cases, block_cases, fuse_cases}
 use Rattle.rules.specs.CasesMatch.{code_cases, key_cases}
 use Rattle.rules.specs.CasesRefusals.{step_refusals, order_cases, state_cases, answer_cases, run_cases, buffer_cases}
+use Rattle.rules.specs.CasesNumbers.{refusal_numbers}
 use Rattle.rules.specs.CasesFiles.{file_cases, tries_cases, act_cases, maker_cases}
 use Rattle.rules.specs.CasesReasons.{number_cases, idle_reasons, place_reasons, never_reasons, thing_reasons, right_reasons, lacking_cases}
 
@@ -69,7 +70,7 @@ edges =
 
 -- The long runs stand last: a wrong version is mostly refused before them.
 unfoldable pub table : List Case
-unfolding joined case_s edges line_cases start_cases cut_cases arrival_cases pin_cases zone_cases erase_cases image_cases program_cases operation_cases block_cases fuse_cases code_cases key_cases step_refusals order_cases state_cases answer_cases run_cases buffer_cases file_cases tries_cases act_cases maker_cases number_cases idle_reasons place_reasons never_reasons thing_reasons right_reasons lacking_cases
+unfolding joined case_s edges line_cases start_cases cut_cases arrival_cases pin_cases zone_cases erase_cases image_cases program_cases operation_cases block_cases fuse_cases code_cases key_cases step_refusals order_cases state_cases answer_cases run_cases buffer_cases refusal_numbers file_cases tries_cases act_cases maker_cases number_cases idle_reasons place_reasons never_reasons thing_reasons right_reasons lacking_cases
 table =
     joined
     ((case_s ∷ []) ∷
@@ -90,6 +91,7 @@ table =
     answer_cases ∷
     run_cases ∷
     buffer_cases ∷
+    refusal_numbers ∷
     file_cases ∷
     tries_cases ∷
     act_cases ∷

@@ -27,4 +27,5 @@ pub mod CasesMatch
 pub mod CasesRefusals
 pub mod CasesFiles
 pub mod CasesReasons
+pub mod CasesNumbers
 pub mod Cases
