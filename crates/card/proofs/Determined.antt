@@ -12,9 +12,15 @@ use Rattle.card.specs.Calls.{StepAnswered, StepTold, RunAnswered}
 
 module _ (g left left' : Given) where
   pub step_determined :
+      (n : ℕ) (x x' : Result ℕ ℕ) → StepAnswered g n left x → StepAnswered g n left' x' → (left ≡ left') × (x ≡ x')
+  step_determined n x x' p q = (determined p.card q.card, determined p.answer q.answer)
+
+  -- And the refusal itself, which the number tells.
+  pub step_answer_determined :
       (n : ℕ) (x x' : Result ℕ Refusal) → StepAnswered g n left (numbered x) → StepAnswered g n left' (numbered x') →
       (left ≡ left') × (x ≡ x')
-  step_determined n x x' p q = (determined p.card q.card, same_numbered x x' (determined p.answer q.answer))
+  step_answer_determined n x x' p q =
+      let same = step_determined n (numbered x) (numbered x') p q in (same.0, same_numbered x x' same.1)
 
   pub told_determined :
       (n shown shown' k k' : ℕ) → StepTold g n left shown k → StepTold g n left' shown' k' → (left ≡ left') × (shown ≡ shown') × (k ≡ k')

@@ -14,14 +14,27 @@ use Rattle.file.specs.Opening.{CardOpened, SessionOpened, Handed}
 
 module _ (file memory after after' : List ℕ) where
   pub card_determined :
-      (r r' : Result CardFile Refusal) → CardOpened file memory (numbered r) after → CardOpened file memory (numbered r') after' →
+      (r r' : Result CardFile ℕ) → CardOpened file memory r after → CardOpened file memory r' after' →
       (r ≡ r') × (after ≡ after')
-  card_determined r r' p q = let same = determined p.answer q.answer in (same_numbered r r' same, cc (p.bytes, q.bytes, same))
+  card_determined r r' p q = let same = determined p.answer q.answer in (same, cc (p.bytes, q.bytes, same))
 
   pub session_determined :
+      (r r' : Result Session ℕ) → SessionOpened file memory r after → SessionOpened file memory r' after' →
+      (r ≡ r') × (after ≡ after')
+  session_determined r r' p q = let same = determined p.answer q.answer in (same, cc (p.bytes, q.bytes, same))
+
+  -- And the refusal itself, which the number tells.
+  pub card_answer_determined :
+      (r r' : Result CardFile Refusal) → CardOpened file memory (numbered r) after → CardOpened file memory (numbered r') after' →
+      (r ≡ r') × (after ≡ after')
+  card_answer_determined r r' p q =
+      let same = card_determined (numbered r) (numbered r') p q in (same_numbered r r' same.0, same.1)
+
+  pub session_answer_determined :
       (r r' : Result Session Refusal) → SessionOpened file memory (numbered r) after → SessionOpened file memory (numbered r') after' →
       (r ≡ r') × (after ≡ after')
-  session_determined r r' p q = let same = determined p.answer q.answer in (same_numbered r r' same, cc (p.bytes, q.bytes, same))
+  session_answer_determined r r' p q =
+      let same = session_determined (numbered r) (numbered r') p q in (same_numbered r r' same.0, same.1)
 
 -- A part of the caller's bytes: what it holds, and where it lies.
 pub steps_determined :

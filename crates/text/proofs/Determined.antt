@@ -27,8 +27,16 @@ same_told (Err w) (Err v) e =
     go a b f g p q = cc
 
 pub assembly_determined :
-    (text buffer : List ℕ) (r r' : Result ℕ Wrong) (after after' : List ℕ)
-    → Assembles text buffer (told r) after → Assembles text buffer (told r') after' → (r ≡ r') × (after ≡ after')
+    (text buffer : List ℕ) (r r' : Result ℕ (ℕ × ℕ)) (after after' : List ℕ)
+    → Assembles text buffer r after → Assembles text buffer r' after' → (r ≡ r') × (after ≡ after')
 assembly_determined text buffer r r' after after' p q =
     let same = determined p.answer q.answer in
-    (same_told r r' same, cc (p.kept, q.kept, same))
+    (same, cc (p.kept, q.kept, same))
+
+-- And the fault itself, which the number tells.
+pub answer_determined :
+    (text buffer : List ℕ) (r r' : Result ℕ Wrong) (after after' : List ℕ)
+    → Assembles text buffer (told r) after → Assembles text buffer (told r') after' → (r ≡ r') × (after ≡ after')
+answer_determined text buffer r r' after after' p q =
+    let same = assembly_determined text buffer (told r) (told r') after after' p q in
+    (same_told r r' same.0, same.1)
