@@ -10,6 +10,7 @@ ghost use Rattle.report.specs.Buffer.{Made};
 use decimal::places;
 use memory::lent::Filling;
 
+// Behind a word and a number. The answers have an end of their own, so that a slip in this one is known from a slip in theirs.
 const NEWLINE: &[u8] = b"\n";
 
 // What the four lines tell of a run: that it did `done` of the steps given. Of the answers the first `done` are told, all of them if there
@@ -44,7 +45,7 @@ fn put_answers(to: &mut Filling, answers: &[u8])
     for &a in answers {
         decimal::put_digit(to, a as usize);
     }
-    to.put(NEWLINE);
+    to.put(b"\n");
 }
 
 // `bad N`, a line: how many bytes it has, or none of them is written for want of room.
